@@ -1,0 +1,4 @@
+pub mod Modulus
+pub mod Prime
+pub mod Remainders
+pub mod Fields
