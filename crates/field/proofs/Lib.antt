@@ -2,3 +2,4 @@ pub mod Modulus
 pub mod Prime
 pub mod Remainders
 pub mod Fields
+pub mod Vectors

@@ -3,3 +3,4 @@ pub mod Ops
 pub mod Field
 pub mod Vector
 pub mod Refusal
+pub mod Operation
