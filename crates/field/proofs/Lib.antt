@@ -3,3 +3,4 @@ pub mod Prime
 pub mod Remainders
 pub mod Fields
 pub mod Vectors
+pub mod Rows

@@ -4,3 +4,4 @@ pub mod Field
 pub mod Vector
 pub mod Refusal
 pub mod Operation
+pub mod Row

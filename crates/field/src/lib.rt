@@ -3,9 +3,13 @@
 //
 // Nothing here refuses: for a q that is no field's every result is 0. Whoever takes a q, a length or an element from
 // outside refuses it first.
+mod row;
 mod scalar;
 mod vector;
 
+pub use row::all_below;
+pub use row::combine;
+pub use row::dot;
 pub use scalar::add;
 pub use scalar::is_field;
 pub use scalar::mul;

@@ -24,7 +24,7 @@ fn modulus_of(q: u8) -> u32
 }
 
 // The remainder of x by q, and 0 for a q that is no field's. Each division is by a constant.
-fn reduce(q: u8, x: u32) -> u8
+pub fn reduce(q: u8, x: u32) -> u8
     ensures { λ r. ⌜ r ≡ x % modulus q ⌝ }
 {
     match q {
