@@ -4,3 +4,4 @@ pub mod Remainders
 pub mod Fields
 pub mod Vectors
 pub mod Rows
+pub mod Sums

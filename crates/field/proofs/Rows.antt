@@ -11,9 +11,10 @@ use lib.ListN.{length, getD, take, drop, set, length-drop}
 use lib.Seq.{take-suc, take-all, length-take-le, drop-cons, drop-length, set-at, getD-take, getD-drop, append-snoc}
 use borrow.Author.Tests.{ltb-true, ltb-false, lt-ltb, le-ltb}
 use Rattle.field.specs.Ops.{isField, modulus, ops}
-use Rattle.field.specs.Vector.{_!_, allBelow, sum, tabulate}
+use Rattle.slices.proofs.Parts.{part-at, length-part}
+use Rattle.slices.specs.Slices.{_!_, tabulate}
+use Rattle.field.specs.Vector.{allBelow, sum}
 use Rattle.field.specs.Row.{largest, products}
-use Rattle.field.proofs.Vectors.{length-tabulate}
 
 -- ---- the largest element
 
@@ -61,9 +62,6 @@ products-step a b i t x y et ex ey = rw (add-one, et, ex, ey)
 pub products-end : (a b : List ℕ) (i n t : ℕ) → t ≡ products a b i → i ≡ n → t ≡ products a b n
 products-end a b i n t e h = rw (← h) e
 
-part-at : (a : List ℕ) (s e i : ℕ) → i < e - s → take (e - s) (drop s a) ! i ≡ a ! (s + i)
-part-at a s e i h = getD-take (e - s) (drop s a) i 0 h ∙ getD-drop s a i 0
-
 products-part : (a b : List ℕ) (s e k : ℕ) → k ≤ e - s →
     products a b s + products (take (e - s) (drop s a)) (take (e - s) (drop s b)) k ≡ products a b (s + k)
 unfolding products
@@ -72,9 +70,6 @@ products-part a b s e (suc k) h =
     sym (add-assoc (products a b s) _ _) ∙
     ap₂ (λ (t u : ℕ). t + u) (products-part a b s e k (omega arith)) (ap₂ (λ (t u : ℕ). t * u) (part-at a s e k (omega arith)) (part-at b s e k (omega arith))) ∙
     ap (products a b) (sym (add-suc s k))
-
-pub length-part : (a : List ℕ) (s e : ℕ) → s ≤ e → e ≤ length a → length (take (e - s) (drop s a)) ≡ e - s
-length-part a s e h k = length-take-le (e - s) (drop s a) (simp length-drop (omega arith))
 
 -- a block's sum is what it adds to the whole
 pub products-block : (a b : List ℕ) (s e t r : ℕ) → t ≡ products a b s → s ≤ e → e ≤ length a →
@@ -88,23 +83,3 @@ pub products-sum : (q : ℕ) (a b : List ℕ) (k : ℕ) → products a b k % mod
 unfolding products sum ops
 products-sum q a b zero = zero-mod (modulus q)
 products-sum q a b (suc k) = add-mod (products a b k) (a ! k * b ! k) (modulus q) ∙ ap (λ (t : ℕ). (t + a ! k * b ! k % modulus q) % modulus q) (products-sum q a b k)
-
--- ---- a row that is filled from the front
-
-pub tabulate-snoc : (n : ℕ) (f : ℕ → ℕ) → tabulate (suc n) f ≡ tabulate n f ++ f n ∷ []
-unfolding tabulate
-tabulate-snoc zero f = refl
-tabulate-snoc (suc n) f = ap (λ (t : List ℕ). f 0 ∷ t) (tabulate-snoc n (λ i. f (suc i)))
-
-pub fill-start : (d : List ℕ) (f : ℕ → ℕ) → d ≡ tabulate 0 f ++ drop 0 d
-unfolding tabulate
-fill-start d f = refl
-
-pub fill-step : (d l : List ℕ) (f : ℕ → ℕ) (i v : ℕ) → l ≡ tabulate i f ++ drop i d → i < length d → v ≡ f i → set l i v ≡ tabulate (i + 1) f ++ drop (i + 1) d
-fill-step d l f i v e h ev =
-    ap₂ (λ (t : List ℕ) (u : ℕ). set t i u) (e ∙ ap (λ (t : List ℕ). tabulate i f ++ t) (drop-cons d i 0 h)) ev ∙
-    set-at (tabulate i f) (d ! i) (drop (suc i) d) (f i) i (length-tabulate i f) ∙
-    rw (add-one, tabulate-snoc, append-assoc)
-
-pub fill-end : (d l : List ℕ) (f : ℕ → ℕ) (i : ℕ) → l ≡ tabulate i f ++ drop i d → i ≡ length d → l ≡ tabulate (length d) f
-fill-end d l f i e h = e ∙ rw (h, drop-length, append-nil)

@@ -12,31 +12,9 @@ use lib.Dec.{ltb, lit<}
 use lib.ListN.{length, getD, set, replicate, length-set, length-replicate, getD-replicate, List·getD-eq-default}
 use lib.Seq.{ext-getD, getD-set-same, getD-set-other}
 use borrow.Author.Tests.{lt-ltb, le-ltb}
-use Rattle.field.specs.Vector.{_!_, tabulate, vector}
-
--- ---- tabulated lists
-
-pub length-tabulate : (n : ℕ) (f : ℕ → ℕ) → length (tabulate n f) ≡ n
-unfolding tabulate
-length-tabulate zero f = refl
-length-tabulate (suc n) f = ap suc (length-tabulate n (λ i. f (suc i)))
-
-pub tabulate-at : (n : ℕ) (f : ℕ → ℕ) (i : ℕ) → i < n → tabulate n f ! i ≡ f i
-unfolding tabulate
-tabulate-at zero f i h = absurd (not-suc-le-zero h)
-tabulate-at (suc n) f zero h = refl
-tabulate-at (suc n) f (suc i) h = tabulate-at n (λ k. f (suc k)) i (le-of-suc-le-suc h)
-
-pub tabulate-beyond : (n : ℕ) (f : ℕ → ℕ) (i : ℕ) → n ≤ i → tabulate n f ! i ≡ 0
-tabulate-beyond n f i h = List·getD-eq-default (tabulate n f) 0 (rw (length-tabulate n f) h)
-
--- a list is what it is tabulated from
-pub tabulate-of : (l : List ℕ) (n : ℕ) (f : ℕ → ℕ) → length l ≡ n → ((i : ℕ) → i < n → l ! i ≡ f i) → l ≡ tabulate n f
-tabulate-of l n f len each =
-    ext-getD 0 l (tabulate n f) (len ∙ sym (length-tabulate n f)) (λ i h. let below : i < n = rw len at h in each i below ∙ sym (tabulate-at n f i below))
-
-pub tabulate-cong : (n : ℕ) (f g : ℕ → ℕ) → ((i : ℕ) → i < n → f i ≡ g i) → tabulate n f ≡ tabulate n g
-tabulate-cong n f g same = tabulate-of (tabulate n f) n g (length-tabulate n f) (λ i h. tabulate-at n f i h ∙ same i h)
+use Rattle.slices.specs.Slices.{_!_, tabulate}
+use Rattle.slices.proofs.Tabulate.{length-tabulate, tabulate-at, tabulate-beyond, tabulate-of}
+use Rattle.field.specs.Vector.{vector}
 
 -- ---- vectors
 

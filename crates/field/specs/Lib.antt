@@ -2,6 +2,5 @@
 pub mod Ops
 pub mod Field
 pub mod Vector
-pub mod Refusal
 pub mod Operation
 pub mod Row

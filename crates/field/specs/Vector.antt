@@ -3,19 +3,9 @@ use Prim.Native.Nat.{ℕ, zero, suc, _<_}
 use mathlib.Core.Path.{_≡_}
 use mathlib.Core.Bool.{Bool, true, _&&_, cond}
 use mathlib.Core.List.{List, [], _∷_}
-use lib.ListN.{getD}
 use lib.Dec.{ltb}
+use Rattle.slices.specs.Slices.{_!_, tabulate}
 use Rattle.field.specs.Ops.{Ops}
-
-infixl 90 _!_
--- what stands at place i of a list, from 0; 0 beyond its end
-abbrev pub _!_ : List ℕ → ℕ → ℕ
-x ! i = getD x i 0
-
--- f 0, .., f (n - 1)
-unfoldable pub tabulate : ℕ → (ℕ → ℕ) → List ℕ
-tabulate zero f = []
-tabulate (suc n) f = f 0 ∷ tabulate n (λ i. f (suc i))
 
 -- "A vector is held by value in 96 bytes, zero beyond its length."
 unfoldable pub vector : ℕ → (ℕ → ℕ) → List ℕ

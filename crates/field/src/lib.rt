@@ -15,5 +15,6 @@ pub use scalar::is_field;
 pub use scalar::mul;
 pub use scalar::sub;
 pub use vector::add_vectors;
+pub use vector::from_slice;
 pub use vector::mul_vector;
 pub use vector::sub_vectors;

@@ -4,7 +4,8 @@ ghost use mathlib.Core.Path.{_≡_};
 ghost use Prim.Native.Nat.{_+_, _*_, _≤_, _<_, max};
 ghost use lib.ListN.{length};
 ghost use Rattle.field.specs.Ops.{ops};
-ghost use Rattle.field.specs.Vector.{_!_, allBelow, sum, tabulate};
+ghost use Rattle.slices.specs.Slices.{_!_, tabulate};
+ghost use Rattle.field.specs.Vector.{allBelow, sum};
 ghost use Rattle.field.specs.Row.{largest, products};
 
 fn larger(a: u8, b: u8) -> u8

@@ -4,8 +4,10 @@ use crate::scalar::mul;
 use crate::scalar::sub;
 ghost use mathlib.Core.Path.{_≡_};
 ghost use Prim.Native.Nat.{min};
+ghost use lib.ListN.{length};
 ghost use Rattle.field.specs.Ops.{ops};
-ghost use Rattle.field.specs.Vector.{_!_, vector, addV, subV, mulV};
+ghost use Rattle.slices.specs.Slices.{_!_};
+ghost use Rattle.field.specs.Vector.{vector, addV, subV, mulV};
 ghost use Rattle.field.specs.Operation.{operation};
 
 // The operation that a loop over two vectors applies at each place.
@@ -13,6 +15,27 @@ pub enum Operation {
     Sum,
     Difference,
     Product,
+}
+
+// How many of n elements 96 bytes hold.
+fn held(n: usize) -> usize
+    ensures { λ r. ⌜ r ≡ min n 96 ⌝ }
+{
+    if n < 96 { n } else { 96 }
+}
+
+// The vector of the bytes of s, of which 96 at most are held.
+pub fn from_slice(s: &[u8]) -> [u8; 96]
+    ensures { λ r. ⌜ r ≡ vector (length (now (s .entry))) (λ i. now (s .entry) ! i) ⌝ }
+{
+    let mut z = [0; 96];
+    let end = held(s.len());
+    let mut i = 0;
+    while i < end {
+        z[i] = s[i];
+        i += 1;
+    }
+    z
 }
 
 fn apply(o: Operation, q: u8, a: u8, b: u8) -> u8
@@ -25,18 +48,11 @@ fn apply(o: Operation, q: u8, a: u8, b: u8) -> u8
     }
 }
 
-// How many of n elements 96 bytes hold.
-fn held(n: u8) -> usize
-    ensures { λ r. ⌜ r ≡ min n 96 ⌝ }
-{
-    if n < 96 { n as usize } else { 96 }
-}
-
 fn each(o: Operation, q: u8, n: u8, x: [u8; 96], y: [u8; 96]) -> [u8; 96]
     ensures { λ r. ⌜ r ≡ vector n (λ i. operation o (ops q) (x ! i) (y ! i)) ⌝ }
 {
     let mut z = [0; 96];
-    let end = held(n);
+    let end = held(n as usize);
     let mut i = 0;
     while i < end {
         z[i] = apply(o, q, x[i], y[i]);

@@ -6,8 +6,8 @@ use native.Mathlib.Omega.{arith}
 use borrow.Author.Needs.{needs}
 use lib.ListN.{length, drop, length-set}
 use Rattle.field.specs.Ops.{ops}
-use Rattle.field.specs.Vector.{_!_, tabulate}
-use Rattle.field.proofs.Rows.{fill-start, fill-step, fill-end}
+use Rattle.slices.specs.Slices.{_!_, tabulate}
+use Rattle.slices.proofs.Tabulate.{fill-start, fill-step, fill-end}
 use Rattle.field.proofs.row.combine.Statement.{statement}
 use Rattle.field.proofs.row.combine.Tie as tie
 

@@ -5,9 +5,10 @@ use mathlib.Core.List.{List}
 use native.Mathlib.Omega.{arith}
 use borrow.Author.Needs.{needs}
 use lib.ListN.{length, take, drop}
+use Rattle.slices.proofs.Parts.{length-part}
 use Rattle.field.specs.Ops.{modulus}
 use Rattle.field.specs.Row.{products}
-use Rattle.field.proofs.Rows.{length-part, products-start, products-block, products-end, products-sum}
+use Rattle.field.proofs.Rows.{products-start, products-block, products-end, products-sum}
 use Rattle.field.proofs.row.dot.Statement.{statement}
 use Rattle.field.proofs.row.dot.Tie as tie
 

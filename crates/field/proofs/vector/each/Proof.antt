@@ -5,7 +5,8 @@ use native.Mathlib.Omega.{arith}
 use borrow.Author.Needs.{needs}
 use Rattle.field.specs.Ops.{ops}
 use Rattle.field.specs.Operation.{operation}
-use Rattle.field.specs.Vector.{_!_, vector}
+use Rattle.slices.specs.Slices.{_!_}
+use Rattle.field.specs.Vector.{vector}
 use Rattle.field.proofs.Vectors.{vector-start, vector-step, vector-end}
 use Rattle.field.proofs.vector.each.Statement.{statement}
 use Rattle.field.proofs.vector.each.Tie as tie

@@ -5,7 +5,8 @@ use borrow.Author.Needs.{needs}
 use lib.ListN.{getD-replicate}
 use Rattle.field.specs.Ops.{ops}
 use Rattle.field.specs.Operation.{operation}
-use Rattle.field.specs.Vector.{_!_, mulV}
+use Rattle.slices.specs.Slices.{_!_}
+use Rattle.field.specs.Vector.{mulV}
 use Rattle.field.proofs.Vectors.{vector-cong}
 use Rattle.field.proofs.vector.mul_vector.Statement.{statement}
 use Rattle.field.proofs.vector.mul_vector.Tie as tie

@@ -11,3 +11,7 @@ unless test k = cond test 0 k
 -- the first of two that is no 0
 unfoldable pub _orElse_ : ℕ → ℕ → ℕ
 first orElse later = cond (eqb first 0) later first
+
+-- what is refused stays as it was
+unfoldable pub kept : {A : Type 0} → ℕ → A → A → A
+kept refusal old new = cond (eqb refusal 0) new old
