@@ -65,9 +65,10 @@ fn block_end(at: usize, len: usize) -> usize
     if len - at <= 512 { len } else { at + 512 }
 }
 
-// The sum of the products of two rows, place by place. The running sum has 64 bits, and blocks are summed in 32.
+// The sum of the products of a and the front of b, place by place. The running sum has 64 bits, and blocks are summed in
+// 32.
 pub fn dot<'a>(q: u8, a: &'a [u8], b: &'a [u8]) -> u8
-    requires { ⌜ (length (now a) ≡ length (now b)) × (length (now a) ≤ 65536) ⌝ }
+    requires { ⌜ (length (now a) ≤ length (now b)) × (length (now a) ≤ 65536) ⌝ }
     ensures { λ r. ⌜ r ≡ sum (ops q) (length (now (a .entry))) (λ k. (ops q) .mul (now (a .entry) ! k) (now (b .entry) ! k)) ⌝ }
 {
     let mut total: u64 = 0;

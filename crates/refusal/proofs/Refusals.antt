@@ -1,8 +1,8 @@
 -- What a chain of refusals tells where it comes to 0, and what it is where a test decides. Assumes nothing.
 use Prim.Native.Nat.{ℕ}
-use mathlib.Core.Path.{_≡_, refl, sym, _∙_}
+use mathlib.Core.Path.{_≡_, refl}
 use mathlib.Core.Bool.{Bool, true, false, cond}
-use lib.Dec.{eqb}
+use lib.Dec.{T, eqb, ltb}
 use borrow.Author.Tests.{eqb-true}
 use Rattle.refusal.specs.Refusal.{unless, _orElse_, kept}
 
@@ -20,10 +20,10 @@ unfolding _orElse_
 later-zero a b h = rw (first-zero a b h) at h
 
 -- no refusal: the test holds
-pub test-holds : (t : Bool) (k : ℕ) → (k ≡ 0 → ⊥) → unless t k ≡ 0 → t ≡ true
+pub test-holds : (t : Bool) (k : ℕ) → T (ltb 0 k) → unless t k ≡ 0 → t ≡ true
 unfolding unless
-test-holds true k nz h = refl
-test-holds false k nz h = absurd (nz h)
+test-holds true k positive h = refl
+test-holds false k positive h = absurd (rw h at positive)
 
 pub kept-accepted : {A : Type 0} (r : ℕ) (old new : A) → r ≡ 0 → kept r old new ≡ new
 unfolding kept

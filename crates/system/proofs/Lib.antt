@@ -1,2 +1,3 @@
+pub mod SystemLayout
 pub mod Forms
 pub mod Laws

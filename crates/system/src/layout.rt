@@ -22,13 +22,17 @@ pub fn system_length(n: u8, m: u8) -> usize
 fn is_size(k: u8) -> bool
     ensures { λ r. ⌜ r ≡ isSize k ⌝ }
 {
-    1 <= k && k <= 96
+    if 1 <= k { k <= 96 } else { false }
 }
 
 fn are_sizes(q: u8, n: u8, m: u8) -> bool
     ensures { λ r. ⌜ r ≡ areSizes q n m ⌝ }
 {
-    is_field(q) && is_size(n) && is_size(m)
+    if is_field(q) {
+        if is_size(n) { is_size(m) } else { false }
+    } else {
+        false
+    }
 }
 
 // Refuses a system's bytes: 0 where they are well-formed.

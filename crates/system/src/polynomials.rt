@@ -41,7 +41,7 @@ fn products(system: &[u8], monomials: [u8; 4752]) -> [u8; 96]
     let mut l = 0;
     while l < m {
         let next = at + w;
-        out[l] = dot(system[0], &system[at..next], &monomials[..w]);
+        out[l] = dot(system[0], &system[at..next], &monomials);
         at = next;
         l += 1;
     }

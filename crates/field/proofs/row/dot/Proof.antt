@@ -2,6 +2,7 @@
 use Prim.Native.Nat.{ℕ, _≤_, _-_, _*_, _%_}
 use mathlib.Core.Path.{_≡_, refl, ap, _∙_}
 use mathlib.Core.List.{List}
+use native.Mathlib.Nat.{le-refl}
 use native.Mathlib.Omega.{arith}
 use borrow.Author.Needs.{needs}
 use lib.ListN.{length, take, drop}
@@ -20,7 +21,7 @@ abbrev μ-loop : tie.MeasureT-loop
 
 -- a part of either row has the block's length
 part-length : (c : tie.After-block-arg2 Inv-loop μ-loop) (row : List ℕ) →
-    length (c .before .before .before .before .before .before .before .args .a .now) ≡ length row →
+    length (c .before .before .before .before .before .before .before .args .a .now) ≤ length row →
     let at = c .before .before .before .before .loop .at in
     let end = c .before .before .block-end .result in
     length (take (end - at) (drop at row)) ≡ end - at
@@ -28,7 +29,7 @@ part-length c row same = length-part row _ _ (omega arith) (omega arith)
 
 block-bound : (c : tie.After-block Inv-loop μ-loop) →
     c .block .result ≤ 65025 * (c .before .before .before .block-end .result - c .before .before .before .before .before .loop .at)
-block-bound c = rw (part-length (c .before) (c .before .before .before .before .before .before .before .before .args .a .now) refl) at (c .block .ensures .1)
+block-bound c = rw (part-length (c .before) (c .before .before .before .before .before .before .before .before .args .a .now) (le-refl _)) at (c .block .ensures .1)
 
 pub dot-spec : {M : Type 1} → statement M
 dot-spec =
@@ -46,7 +47,7 @@ dot-spec =
     (λ c. omega arith)
     (λ c κs.
     let start = c .before .before .before .before .before .before .before in
-    simp (part-length c (start .args .a .now) refl, part-length c (start .args .b .now) (start .pre .0)) (refl, omega arith))
+    simp (part-length c (start .args .a .now) (le-refl _), part-length c (start .args .b .now) (start .pre .0)) (refl, omega arith))
     (λ c. search needs)
     (λ c. omega (arith, block-bound c))
     (λ c. omega arith)
