@@ -1,3 +1,5 @@
 pub mod SystemLayout
+pub mod Triangle
 pub mod Forms
 pub mod Laws
+pub mod Evaluation

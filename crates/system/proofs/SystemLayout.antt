@@ -40,6 +40,9 @@ pub width-is : (n : ℕ) → width n ≡ triangle n n + n
 unfolding width
 width-is n = ap (λ (k : ℕ). k + n) (sym (triangle-whole n))
 
+pub triangle-bound : (n : ℕ) → n ≤ 96 → triangle n n ≤ 4656
+triangle-bound n h = omega (arith, triangle-whole n, product-bound n 96 h)
+
 -- the row of i ends where the next starts, and that is at most where a later one does
 pub triangle-next : (n i j : ℕ) → i < j → triangle n i + (n - i) ≤ triangle n j
 unfolding triangle
@@ -84,11 +87,12 @@ accepted b h =
     let n-size = and-left (isSize (nOf b)) (isSize (mOf b)) n-and-m in
     let m-size = and-right (isSize (nOf b)) (isSize (mOf b)) n-and-m in
     record {
-    front = leb-true 3 (length b) (test-holds (leb 3 (length b)) 2 tt (first-zero _ _ h));
-    is-field = and-left (isField (qOf b)) (isSize (nOf b) && isSize (mOf b)) sizes;
-    n-low = leb-true 1 (nOf b) (and-left (leb 1 (nOf b)) (leb (nOf b) 96) n-size);
-    n-high = leb-true (nOf b) 96 (and-right (leb 1 (nOf b)) (leb (nOf b) 96) n-size);
-    m-low = leb-true 1 (mOf b) (and-left (leb 1 (mOf b)) (leb (mOf b) 96) m-size);
-    m-high = leb-true (mOf b) 96 (and-right (leb 1 (mOf b)) (leb (mOf b) 96) m-size);
-    whole = eqb-true (length b) (systemLength (nOf b) (mOf b)) (test-holds _ 2 tt (first-zero _ _ (later-zero _ _ (later-zero _ _ h))));
-    elements = test-holds (allBelow (qOf b) (drop 3 b)) 3 tt (later-zero _ _ (later-zero _ _ (later-zero _ _ h))) }
+      front = leb-true 3 (length b) (test-holds (leb 3 (length b)) 2 tt (first-zero _ _ h));
+      is-field = and-left (isField (qOf b)) (isSize (nOf b) && isSize (mOf b)) sizes;
+      n-low = leb-true 1 (nOf b) (and-left (leb 1 (nOf b)) (leb (nOf b) 96) n-size);
+      n-high = leb-true (nOf b) 96 (and-right (leb 1 (nOf b)) (leb (nOf b) 96) n-size);
+      m-low = leb-true 1 (mOf b) (and-left (leb 1 (mOf b)) (leb (mOf b) 96) m-size);
+      m-high = leb-true (mOf b) 96 (and-right (leb 1 (mOf b)) (leb (mOf b) 96) m-size);
+      whole = eqb-true (length b) (systemLength (nOf b) (mOf b)) (test-holds _ 2 tt (first-zero _ _ (later-zero _ _ (later-zero _ _ h))));
+      elements = test-holds (allBelow (qOf b) (drop 3 b)) 3 tt (later-zero _ _ (later-zero _ _ (later-zero _ _ h)));
+    }

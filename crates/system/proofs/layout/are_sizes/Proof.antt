@@ -14,8 +14,8 @@ are-sizes-spec =
     (λ c κs. search needs)
     (λ c κs. search needs)
     (λ c.
-        simp
-        (sym (c .before .before .before .before .is-field .ensures) ∙ c .before .before .before .if1 .taken, sym (c .before .before .is-size .ensures) ∙ c .before .if2 .taken)
-        (c .is-size2 .ensures))
+    simp
+    (sym (c .before .before .before .before .is-field .ensures) ∙ c .before .before .before .if1 .taken, sym (c .before .before .is-size .ensures) ∙ c .before .if2 .taken)
+    (c .is-size2 .ensures))
     (λ c. simp (sym (c .before .before .before .is-field .ensures) ∙ c .before .before .if1 .taken, sym (c .before .is-size .ensures) ∙ c .if2 .left))
     (λ c. simp (sym (c .before .is-field .ensures) ∙ c .if1 .left)))

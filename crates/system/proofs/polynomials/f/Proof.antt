@@ -1,36 +1,20 @@
+-- The products with the monomials of x are F. Assumes nothing.
+use mathlib.Core.Path.{_∙_}
+use native.Mathlib.Omega.{arith}
+use Rattle.system.proofs.Evaluation.{evaluated}
+use Rattle.system.proofs.SystemLayout.{accepted}
 use Rattle.system.proofs.polynomials.f.Statement.{statement}
 use Rattle.system.proofs.polynomials.f.Tie as tie
-use Rattle.system.proofs.polynomials.f.Reads as reads
-use Rattle.system.proofs.polynomials.f.Lts as lts
-use Rattle.system.proofs.polynomials.monomials.Reads as monomials-reads
-use Rattle.system.proofs.polynomials.products.Reads as products-reads
-
--- src/polynomials.rt:56:32
-shared-slice-read-monomials : tie.Need-shared-slice-read-monomials
-shared-slice-read-monomials c = ?
-
--- src/polynomials.rt:56:43
-shared-slice-read-monomials-2 : tie.Need-shared-slice-read-monomials-2
-shared-slice-read-monomials-2 c = ?
-
--- src/polynomials.rt:56:22
-monomials-requires : tie.Need-monomials-requires
-monomials-requires c κs = ?
-
--- src/polynomials.rt:56:5
-products-requires : tie.Need-products-requires
-products-requires c κs = ?
-
--- src/polynomials.rt:52:1
-returns : tie.Need-returns
-returns c = ?
 
 pub f-spec : {M : Type 1} → statement M
 f-spec =
     tie.close
     (tie.spec
-    shared-slice-read-monomials
-    shared-slice-read-monomials-2
-    monomials-requires
-    products-requires
-    returns)
+    (λ c. let k = accepted _ (c .before .before .pre) in omega arith)
+    (λ c. let k = accepted _ (c .before .before .before .pre) in omega arith)
+    (λ c κs. (accepted _ (c .before .before .before .pre)) .n-high)
+    (λ c κs. c .before .before .before .before .pre)
+    (λ c.
+    let start = c .before .before .before .before .before in
+    c .products .ensures ∙
+    evaluated (start .args .system .now) ((accepted _ (start .pre)) .n-high) (start .args .x) _ (c .before .monomials .ensures)))

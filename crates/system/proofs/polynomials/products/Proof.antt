@@ -96,11 +96,15 @@ products-spec =
     (λ c. let k = checked (c .before .before .before .before) in omega arith)
     (λ c. omega arith)
     (λ c.
-        let inside = c .before .before .before .before in
-        let at = inside .before .loop in
-        let k = checked inside in
-        let w = width (nOf (system-of inside)) in
-        (at .inv .0, refl, omega arith, omega arith,
-        vector-step _ _ (at .l) _ (at .inv .4) (omega arith)
-        (row-product (qOf (system-of inside)) (system-of inside) (inside .before .before .before .before .before .before .args .t2) (at .at) _ w _ _ (c .dot .ensures) (part-count (c .before) ∙ at .inv .0) (omega arith) (at .inv .2))))
+    let inside = c .before .before .before .before in
+    let at = inside .before .loop in
+    let k = checked inside in
+    let w = width (nOf (system-of inside)) in (
+      at .inv .0,
+      refl,
+      omega arith,
+      omega arith,
+      vector-step _ _ (at .l) _ (at .inv .4) (omega arith)
+          (row-product (qOf (system-of inside)) (system-of inside) (inside .before .before .before .before .before .before .args .t2) (at .at) _ w _ _ (c .dot .ensures) (part-count (c .before) ∙ at .inv .0) (omega arith) (at .inv .2)),
+    ))
     (λ c. let k = checked′ c in vector-end _ _ (c .before .loop .l) _ (c .before .loop .inv .4) (omega arith)))
