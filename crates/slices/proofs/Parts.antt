@@ -1,10 +1,10 @@
 -- Parts of a list, from s up to e: what stands in them, how long they are, and a list with a part of it replaced. Assumes nothing.
 use Prim.Native.Nat.{ℕ, _+_, _-_, _≤_, _<_}
 use mathlib.Core.Path.{_≡_, sym, ap, _∙_}
-use mathlib.Core.List.{List, _++_}
+use mathlib.Core.List.{List, _++_, append-nil}
 use native.Mathlib.Omega.{arith}
 use lib.ListN.{length, take, drop, length-drop, List·getD-append}
-use lib.Seq.{length-take-le, take-all, getD-take, getD-drop, getD-append-add}
+use lib.Seq.{length-take-le, take-all, take-length, drop-length, getD-take, getD-drop, getD-append-add}
 use borrow.Rule.Slice.PartMut.{putMid, postOf}
 use Rattle.slices.specs.Slices.{_!_}
 
@@ -30,3 +30,7 @@ put-inside a k xs ys i within h =
 pub copied-at : (src dst l : List ℕ) (k i : ℕ) → k ≡ length src → l ≡ take k src ++ drop k dst → i < length src → l ! i ≡ src ! i
 copied-at src dst l k i e copied h =
     ap (λ (s : List ℕ). s ! i) (copied ∙ ap (λ (s : List ℕ). s ++ drop k dst) (take-all k src (omega arith))) ∙ List·getD-append src (drop k dst) 0 i h
+
+-- a whole list is copied over
+pub copied-whole : (src dst l : List ℕ) → length src ≡ length dst → l ≡ take (length src) src ++ drop (length src) dst → l ≡ src
+copied-whole src dst l same copied = copied ∙ rw (take-length, same, drop-length, append-nil)

@@ -83,3 +83,18 @@ module _ (b : List ℕ) (small : nOf b ≤ 96) where
       simp (G-expanded x y, vector-at)
       (polar-cong (opsOf b) (field (qOf b)) (nOf b) (quadratic b l) _ _ _ _ (λ i s. vector-at (nOf b) _ i s (omega arith)) (λ i s. refl) ∙
       polar-mul (opsOf b) (field (qOf b)) (nOf b) (quadratic b l) c (λ i. x ! i) (λ i. y ! i)))
+
+  -- F and G look at no more of their arguments than n elements
+  pub F-held : (x : List ℕ) → F b (vector (nOf b) (λ i. x ! i)) ≡ F b x
+  unfolding F
+  F-held x =
+      vector-cong (mOf b) _ _ (λ l h below.
+      polynomial-cong (opsOf b) (field (qOf b)) (nOf b) (quadratic b l) (linear b l) _ _ (λ i s. vector-at (nOf b) _ i s (omega arith)))
+
+  pub G-held : (x y : List ℕ) → G b (vector (nOf b) (λ i. x ! i)) (vector (nOf b) (λ i. y ! i)) ≡ G b x y
+  unfolding expanded
+  G-held x y =
+      G-expanded _ _ ∙
+      vector-cong (mOf b) _ _ (λ l h below.
+      polar-cong (opsOf b) (field (qOf b)) (nOf b) (quadratic b l) _ _ _ _ (λ i s. vector-at (nOf b) _ i s (omega arith)) (λ i s. vector-at (nOf b) _ i s (omega arith))) ∙
+      sym (G-expanded x y)

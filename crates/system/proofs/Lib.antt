@@ -3,3 +3,4 @@ pub mod Triangle
 pub mod Forms
 pub mod Laws
 pub mod Evaluation
+pub mod Entries

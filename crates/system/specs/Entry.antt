@@ -12,16 +12,12 @@ use Rattle.system.specs.System.{qOf, nOf, mOf, systemRefusal, F, G}
 unfoldable pub evaluateRefusal : List ℕ → List ℕ → ℕ → ℕ
 evaluateRefusal b x out =
     systemRefusal b orElse
-    unless (eqb (length x) (nOf b)) 2 orElse
-    unless (eqb out (mOf b)) 2 orElse
+    (unless (eqb (length x) (nOf b)) 2 orElse unless (eqb out (mOf b)) 2) orElse
     unless (allBelow (qOf b) x) 3
 
 -- the same with two arguments
 unfoldable pub polarRefusal : List ℕ → List ℕ → List ℕ → ℕ → ℕ
 polarRefusal b x y out =
     systemRefusal b orElse
-    unless (eqb (length x) (nOf b)) 2 orElse
-    unless (eqb (length y) (nOf b)) 2 orElse
-    unless (eqb out (mOf b)) 2 orElse
-    unless (allBelow (qOf b) x) 3 orElse
-    unless (allBelow (qOf b) y) 3
+    (unless (eqb (length x) (nOf b)) 2 orElse unless (eqb (length y) (nOf b)) 2 orElse unless (eqb out (mOf b)) 2) orElse
+    (unless (allBelow (qOf b) x) 3 orElse unless (allBelow (qOf b) y) 3)
