@@ -8,7 +8,7 @@ use mathlib.Core.Logic.{⊎-elim}
 use native.Mathlib.Decide.{decLe}
 use native.Mathlib.Omega.{arith}
 use lib.Dec.{leb, ltb, eqb}
-use lib.ListN.{length, drop}
+use lib.ListN.{length, drop, length-drop}
 use borrow.Author.Tests.{leb-true, eqb-true, ltb-true, le-leb, eq-eqb, lt-ltb}
 use Rattle.slices.specs.Slices.{_!_}
 use Rattle.refusal.specs.Refusal.{unless, _orElse_}
@@ -96,3 +96,58 @@ accepted b h =
       whole = eqb-true (length b) (systemLength (nOf b) (mOf b)) (test-holds _ 2 tt (first-zero _ _ (later-zero _ _ (later-zero _ _ h))));
       elements = test-holds (allBelow (qOf b) (drop 3 b)) 3 tt (later-zero _ _ (later-zero _ _ (later-zero _ _ h)));
     }
+
+-- ---- not refused is well-formed
+
+all-below-at : (q : ℕ) (s : List ℕ) → allBelow q s ≡ true → (i : ℕ) → i < length s → s ! i < q
+unfolding allBelow
+all-below-at q [] e i h = absurd (not-suc-le-zero h)
+all-below-at q (x ∷ s) e zero h = ltb-true x q (and-left (ltb x q) (allBelow q s) e)
+all-below-at q (x ∷ s) e (suc i) h = all-below-at q s (and-right (ltb x q) (allBelow q s) e) i (le-of-suc-le-suc h)
+
+at-all-below : (q : ℕ) (s : List ℕ) → ((i : ℕ) → i < length s → s ! i < q) → allBelow q s ≡ true
+unfolding allBelow
+at-all-below q [] each = refl
+at-all-below q (x ∷ s) each =
+    rw (lt-ltb x q (each 0 (omega arith)), at-all-below q s (λ i h. each (suc i) (omega arith)))
+
+pub well-formed : (b : List ℕ) → systemRefusal b ≡ 0 → WellFormedSystem b
+well-formed b h =
+    let k = accepted b h in
+    record {
+      q = qOf b;
+      n = nOf b;
+      m = mOf b;
+      coefficients = drop 3 b;
+      laid-out = three b (k .front);
+      is-field = k .is-field;
+      n-size = (k .n-low, k .n-high);
+      m-size = (k .m-low, k .m-high);
+      count = length-drop 3 b ∙ omega arith;
+      elements = all-below-at (qOf b) (drop 3 b) (k .elements);
+    }
+  where
+    three : (l : List ℕ) → 3 ≤ length l → l ≡ l ! 0 ∷ l ! 1 ∷ l ! 2 ∷ drop 3 l
+    three [] h = absurd (omega arith)
+    three (x ∷ []) h = absurd (omega arith)
+    three (x ∷ y ∷ []) h = absurd (omega arith)
+    three (x ∷ y ∷ z ∷ l) h = refl
+
+size-true : (k : ℕ) → (1 ≤ k) × (k ≤ 96) → isSize k ≡ true
+unfolding isSize
+size-true k h = rw (le-leb 1 k (h .0), le-leb k 96 (h .1))
+
+sizes-true : (q n m : ℕ) → isField q ≡ true → (1 ≤ n) × (n ≤ 96) → (1 ≤ m) × (m ≤ 96) → areSizes q n m ≡ true
+unfolding areSizes
+sizes-true q n m e hn hm = rw (e, size-true n hn, size-true m hm)
+
+pub not-refused : (b : List ℕ) → WellFormedSystem b → systemRefusal b ≡ 0
+unfolding unless _orElse_ systemLength
+not-refused b w =
+    rw (w .laid-out)
+    (sym
+    (refusal-by (w .q ∷ w .n ∷ w .m ∷ w .coefficients) true true true true
+    (le-leb 3 (suc (suc (suc (length (w .coefficients))))) (omega arith))
+    (sizes-true (w .q) (w .n) (w .m) (w .is-field) (w .n-size) (w .m-size))
+    (eq-eqb (suc (suc (suc (length (w .coefficients))))) (3 + w .m * width (w .n)) (omega (arith, w .count)))
+    (at-all-below (w .q) (w .coefficients) (w .elements))))
