@@ -14,7 +14,7 @@ use Rattle.field.proofs.Sums.{add-nought, mul-nought, sum-below, sum-cong, sum-
 use Rattle.field.proofs.Vectors.{vector-cong}
 use Rattle.system.specs.Polynomial.{pairs, polynomial}
 use Rattle.system.specs.System.{qOf, nOf, mOf, opsOf, width, triangle, quadratic, linear, F, G}
-use Rattle.system.specs.Monomials.{monomial, Monomials}
+use Rattle.system.specs.Monomials.{monomial, Monomials, timesRow}
 use Rattle.system.proofs.Forms.{polar, pairs-cong}
 use Rattle.system.proofs.Laws.{expanded, G-expanded}
 use Rattle.system.proofs.SystemLayout.{triangle-whole, width-is}
@@ -59,8 +59,8 @@ module _ (b : List ℕ) (small : nOf b ≤ 96) where
   zeros-at i h = getD-replicate {A = ℕ} 96 i 0 0 (omega arith)
 
   pub evaluated : (x row : List ℕ) → Monomials (opsOf b) (nOf b) x x (replicate 96 0) x row →
-      vector (mOf b) (λ l. sum (opsOf b) (width (nOf b)) (λ i. (opsOf b) .mul (b ! (3 + l * width (nOf b) + i)) (row ! i))) ≡ F b x
-  unfolding F polynomial quadratic linear
+      timesRow b row ≡ F b x
+  unfolding timesRow F polynomial quadratic linear
   evaluated x row m =
       vector-cong (mOf b) _ _ (λ l h below.
       row-product (opsOf b) (field (qOf b)) (nOf b) (λ i. b ! (3 + l * width (nOf b) + i)) x x (replicate 96 0) x row m ∙
@@ -72,8 +72,8 @@ module _ (b : List ℕ) (small : nOf b ≤ 96) where
           add-nought (opsOf b) (field (qOf b)) _ ((field (qOf b)) .mul-below (x ! i) (x ! j))
 
   pub polarised : (x y row : List ℕ) → Monomials (opsOf b) (nOf b) x y y (replicate 96 0) row →
-      vector (mOf b) (λ l. sum (opsOf b) (width (nOf b)) (λ i. (opsOf b) .mul (b ! (3 + l * width (nOf b) + i)) (row ! i))) ≡ G b x y
-  unfolding expanded polar quadratic pairs
+      timesRow b row ≡ G b x y
+  unfolding timesRow expanded polar quadratic pairs
   polarised x y row m =
       vector-cong (mOf b) _ _ (λ l h below.
       row-product (opsOf b) (field (qOf b)) (nOf b) (λ i. b ! (3 + l * width (nOf b) + i)) x y y (replicate 96 0) row m ∙

@@ -3,12 +3,10 @@ use crate::layout::width;
 use field::combine;
 use field::dot;
 ghost use mathlib.Core.Path.{_≡_};
-ghost use Prim.Native.Nat.{_+_, _*_, _≤_};
-ghost use Rattle.slices.specs.Slices.{_!_};
+ghost use Prim.Native.Nat.{_≤_};
 ghost use Rattle.field.specs.Ops.{ops};
-ghost use Rattle.field.specs.Vector.{sum, vector};
-ghost use Rattle.system.specs.System.{qOf, nOf, mOf, opsOf, width as widthOf, systemRefusal, F, G};
-ghost use Rattle.system.specs.Monomials.{Monomials};
+ghost use Rattle.system.specs.System.{systemRefusal, F, G};
+ghost use Rattle.system.specs.Monomials.{Monomials, timesRow};
 
 // The monomials of x, y, z and t in the stored order of coefficients.
 fn monomials(q: u8, n: u8, x: [u8; 96], y: [u8; 96], z: [u8; 96], t: [u8; 96]) -> [u8; 4752]
@@ -32,7 +30,7 @@ fn monomials(q: u8, n: u8, x: [u8; 96], y: [u8; 96], z: [u8; 96], t: [u8; 96]) -
 // Each polynomial's coefficients times the monomials.
 fn products(system: &[u8], monomials: [u8; 4752]) -> [u8; 96]
     requires { ⌜ systemRefusal (now system) ≡ 0 ⌝ }
-    ensures { λ r. ⌜ r ≡ vector (mOf (now (system .entry))) (λ l. sum (opsOf (now (system .entry))) (widthOf (nOf (now (system .entry)))) (λ k. (opsOf (now (system .entry))) .mul (now (system .entry) ! (3 + l * widthOf (nOf (now (system .entry))) + k)) (monomials ! k))) ⌝ }
+    ensures { λ r. ⌜ r ≡ timesRow (now (system .entry)) monomials ⌝ }
 {
     let mut out = [0; 96];
     let w = width(system[1]);

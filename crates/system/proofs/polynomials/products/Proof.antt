@@ -14,6 +14,7 @@ use Rattle.field.proofs.Fields.{field}
 use Rattle.field.proofs.Sums.{sum-cong}
 use Rattle.field.proofs.Vectors.{vector-start, vector-step, vector-end}
 use Rattle.system.specs.System.{qOf, nOf, mOf, opsOf, width, systemRefusal}
+use Rattle.system.specs.Monomials.{timesRow}
 use Rattle.system.proofs.SystemLayout.{Accepted, accepted, width-bound}
 use Rattle.system.proofs.polynomials.products.Statement.{statement}
 use Rattle.system.proofs.polynomials.products.Tie as tie
@@ -74,7 +75,7 @@ row-product q b row at end w start r e len part first =
     sum-cong (ops q) (field q) w _ _ (λ k h. ap (λ (c : ℕ). (ops q) .mul c (row ! k)) (part-at b at end k (omega arith) ∙ ap (λ (n : ℕ). b ! (n + k)) first))
 
 pub products-spec : {M : Type 1} → statement M
-unfolding system-of
+unfolding system-of timesRow
 products-spec =
     tie.close
     (tie.spec
