@@ -1,0 +1,5 @@
+pub mod Entries
+pub mod Evaluation
+pub mod Forms
+pub mod Laws
+pub mod Triangle
