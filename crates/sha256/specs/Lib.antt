@@ -1,0 +1,6 @@
+pub mod Bytes
+pub mod Words
+pub mod Constants
+pub mod Padding
+pub mod Sha256
+pub mod Examples
