@@ -14,7 +14,6 @@ byteOf k n j = n / 2 ^ (8 * (k - 1 - j)) % 256
 
 -- 3.1: a number as k bytes, the high byte first
 unfoldable pub bytesOf : ℕ → ℕ → List ℕ
-unfolding tabulate byteOf
 bytesOf k n = tabulate k (byteOf k n)
 
 -- 3.1: the word that bytes 4i to 4i + 3 are, the high byte first

@@ -4,3 +4,5 @@ pub mod Constants
 pub mod Padding
 pub mod Sha256
 pub mod Examples
+pub mod State
+pub mod Digest

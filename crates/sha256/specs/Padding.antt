@@ -10,7 +10,6 @@ zeroBytes n = (119 - n % 64) % 64
 
 -- 5.1.1: the message, the bit 1 and seven bits 0, zero bytes, and the message's length in bits as 64 bits
 unfoldable pub pad : List ℕ → List ℕ
-unfolding zeroBytes bytesOf
 pad m = m ++ (0x80 ∷ replicate (zeroBytes (length m)) 0) ++ bytesOf 8 (8 * length m)
 
 -- 5.2.1: the number N of blocks of a padded message
@@ -23,5 +22,4 @@ block p i = take 64 (drop (64 * i) p)
 
 -- 5.2.1: a block as the sixteen words M_0 to M_15
 unfoldable pub wordsOf : List ℕ → List ℕ
-unfolding tabulate wordAt
 wordsOf m = tabulate 16 (wordAt m)

@@ -26,22 +26,18 @@ Maj x y z = bitXor (bitXor (bitAnd x y) (bitAnd x z)) (bitAnd y z)
 
 -- 4.1.2, (4.4)
 unfoldable pub Σ0 : ℕ → ℕ
-unfolding ROTR
 Σ0 x = bitXor (bitXor (ROTR 2 x) (ROTR 13 x)) (ROTR 22 x)
 
 -- 4.1.2, (4.5)
 unfoldable pub Σ1 : ℕ → ℕ
-unfolding ROTR
 Σ1 x = bitXor (bitXor (ROTR 6 x) (ROTR 11 x)) (ROTR 25 x)
 
 -- 4.1.2, (4.6)
 unfoldable pub σ0 : ℕ → ℕ
-unfolding ROTR SHR
 σ0 x = bitXor (bitXor (ROTR 7 x) (ROTR 18 x)) (SHR 3 x)
 
 -- 4.1.2, (4.7)
 unfoldable pub σ1 : ℕ → ℕ
-unfolding ROTR SHR
 σ1 x = bitXor (bitXor (ROTR 17 x) (ROTR 19 x)) (SHR 10 x)
 
 -- 6.2: the eight working variables; as a hash value, a is its word H_0, b is H_1, .., h is H_7
