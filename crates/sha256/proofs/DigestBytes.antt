@@ -22,17 +22,17 @@ unfolding joined
 joined-at [] i h = absurd (omega arith)
 joined-at (w ∷ ws) i h =
     elim (decLt i 4) [
-        yes lt ↦
-        let q : i / 4 ≡ 0 = omega arith in
-        let r : i % 4 ≡ i = omega arith in
-        List·getD-append (bytesOf 4 w) (joined ws) 0 i (rw length-bytesOf lt) ∙ getD-bytesOf 4 w i lt ∙ rw (q, r)
+      | yes lt ↦
+          let q : i / 4 ≡ 0 = omega arith in
+          let r : i % 4 ≡ i = omega arith in
+          List·getD-append (bytesOf 4 w) (joined ws) 0 i (rw length-bytesOf lt) ∙ getD-bytesOf 4 w i lt ∙ rw (q, r)
       | no ge ↦
-        let k : ℕ = i - 4 in
-        let at : i ≡ length (bytesOf 4 w) + k = omega (arith, length-bytesOf 4 w) in
-        let q : i / 4 ≡ suc (k / 4) = omega arith in
-        let r : i % 4 ≡ k % 4 = omega arith in
-        ap (λ (j : ℕ). getD (bytesOf 4 w ++ joined ws) j 0) at ∙ getD-append-add (bytesOf 4 w) (joined ws) k 0
-        ∙ joined-at ws k (omega arith) ∙ rw (q, r)
+          let k : ℕ = i - 4 in
+          let at : i ≡ length (bytesOf 4 w) + k = omega (arith, length-bytesOf 4 w) in
+          let q : i / 4 ≡ suc (k / 4) = omega arith in
+          let r : i % 4 ≡ k % 4 = omega arith in
+          ap (λ (j : ℕ). getD (bytesOf 4 w ++ joined ws) j 0) at ∙ getD-append-add (bytesOf 4 w) (joined ws) k 0
+          ∙ joined-at ws k (omega arith) ∙ rw (q, r)
     ]
 
 byte-below : (k n j : ℕ) → byteOf k n j < 256
@@ -47,6 +47,6 @@ pub sha256-below : (m : List ℕ) (i : ℕ) → getD (sha256 m) i 0 < 256
 unfolding sha256 hashWords
 sha256-below m i =
     elim (decLt i 32) [
-        yes lt ↦ rw joined-at (byte-below 4 _ (i % 4))
-      | no ge ↦ rw (List·getD-eq-default (sha256 m) 0 (omega (arith, length-sha256 m))) (lit< tt)
+      | yes lt ↦ rw joined-at (byte-below 4 _ (i % 4))
+      | no ge ↦ let past : length (sha256 m) ≤ i = omega (arith, length-sha256 m) in rw (List·getD-eq-default (sha256 m) 0 past) (lit< tt)
     ]

@@ -2,5 +2,5 @@
 pub mod Tabulate
 pub mod PaddedMessage
 pub mod MessageSchedule
-pub mod Rounds
+pub mod HashValue
 pub mod DigestBytes

@@ -37,10 +37,10 @@ schedule-next (suc n) m t e low high =
     let l : length w ≡ 16 + n = length-schedule n m ∙ ap (λ (k : ℕ). k + n) e in
     let v : List ℕ = nextWord w (length w) ∷ [] in
     elim (decLt t (16 + n)) [
-        yes lt ↦ List·getD-append w v 0 t (omega arith) ∙ schedule-next n m t e low lt ∙ sym (next-append w v t low (omega arith))
+      | yes lt ↦ List·getD-append w v 0 t (omega arith) ∙ schedule-next n m t e low lt ∙ sym (next-append w v t low (omega arith))
       | no ge ↦
-        let at-end : t ≡ length w = omega arith in
-        getD-at w (nextWord w (length w)) [] 0 t (sym at-end) ∙ ap (nextWord w) (sym at-end) ∙ sym (next-append w v t low (omega arith))
+          let at-end : t ≡ length w = omega arith in
+          getD-at w (nextWord w (length w)) [] 0 t (sym at-end) ∙ ap (nextWord w) (sym at-end) ∙ sym (next-append w v t low (omega arith))
     ]
 
 -- the first n words of the array w are the first of the schedule u
@@ -51,10 +51,10 @@ Holds u w n = (i : ℕ) → i < n → i < 64 → getD w i 0 ≡ getD u i 0
 pub holds-more : (u w : List ℕ) (n v : ℕ) → n < length w → v ≡ getD u n 0 → Holds u w n → Holds u (set w n v) (n + 1)
 holds-more u w n v h e holds i lt fits =
     elim (decLt i n) [
-        yes below ↦ getD-set-other w n i v 0 (λ same. omega arith) ∙ holds i below fits
+      | yes below ↦ getD-set-other w n i v 0 (λ same. omega arith) ∙ holds i below fits
       | no above ↦
-        let same : i ≡ n = omega arith in
-        ap (λ (k : ℕ). getD (set w n v) k 0) same ∙ getD-set-same w n v 0 h ∙ e ∙ ap (λ (k : ℕ). getD u k 0) (sym same)
+          let same : i ≡ n = omega arith in
+          ap (λ (k : ℕ). getD (set w n v) k 0) same ∙ getD-set-same w n v 0 h ∙ e ∙ ap (λ (k : ℕ). getD u k 0) (sym same)
     ]
 
 -- an array that begins with a block's words
@@ -68,6 +68,6 @@ pub holds-next : (m w : List ℕ) (t : ℕ) → length m ≡ 16 → t < 48 → H
 unfolding nextWord
 holds-next m w t e h holds =
     let at : (k : ℕ) → 0 < k → k ≤ 16 → (i : ℕ) → i ≡ t + 16 - k → getD w i 0 ≡ getD (schedule 48 m) (t + 16 - k) 0 =
-        λ k pos le i same. holds i (omega arith) (omega arith) ∙ ap (λ (j : ℕ). getD (schedule 48 m) j 0) same in
+    λ k pos le i same. holds i (omega arith) (omega arith) ∙ ap (λ (j : ℕ). getD (schedule 48 m) j 0) same in
     rw (at 2 (omega arith) (omega arith) (t + 14) (omega arith), at 7 (omega arith) (omega arith) (t + 9) (omega arith), at 15 (omega arith) (omega arith) (t + 1) (omega arith), at 16 (omega arith) (omega arith) t (omega arith))
     (sym (schedule-next 48 m (t + 16) e (omega arith) (omega arith)))

@@ -89,6 +89,11 @@ whole-block m i h =
     block-append (front m) (bytesOf 8 (8 * length m)) i (rw length-front (omega arith))
     ∙ block-append m (0x80 ∷ replicate (zeroBytes (length m)) 0) i h
 
+-- a block as a part of a slice
+pub part-block : (m : List ℕ) (i : ℕ) → take (64 * i + 64 - 64 * i) (drop (64 * i) m) ≡ block m i
+unfolding block
+part-block m i = let e : 64 * i + 64 - 64 * i ≡ 64 = omega arith in ap (λ (n : ℕ). take n (drop (64 * i) m)) e
+
 module _ (p : List ℕ) (i : ℕ) (h : i < blockCount p) where
   within : 64 * i + 64 ≤ length p
   unfolding blockCount

@@ -20,17 +20,17 @@ unfolding tabulate
 getD-tabulate zero f i h = absurd (not-suc-le-zero h)
 getD-tabulate (suc n) f i h =
     elim (decLt i n) [
-        yes lt ↦ List·getD-append (tabulate n f) (f n ∷ []) 0 i (rw length-tabulate lt) ∙ getD-tabulate n f i lt
+      | yes lt ↦ List·getD-append (tabulate n f) (f n ∷ []) 0 i (rw length-tabulate lt) ∙ getD-tabulate n f i lt
       | no ge ↦
-        let e : i ≡ n = omega arith in
-        getD-at (tabulate n f) (f n) [] 0 i (length-tabulate n f ∙ sym e) ∙ ap f (sym e)
+          let e : i ≡ n = omega arith in
+          getD-at (tabulate n f) (f n) [] 0 i (length-tabulate n f ∙ sym e) ∙ ap f (sym e)
     ]
 
 -- a list is given by a rule that gives each of its elements
 pub tabulated : (l : List ℕ) (n : ℕ) (f : ℕ → ℕ) → length l ≡ n → ((i : ℕ) → i < n → getD l i 0 ≡ f i) → tabulate n f ≡ l
 tabulated l n f e h =
     ext-getD 0 (tabulate n f) l (length-tabulate n f ∙ sym e) (λ i lt.
-      let b : i < n = rw length-tabulate at lt in getD-tabulate n f i b ∙ sym (h i b))
+    let b : i < n = rw length-tabulate at lt in getD-tabulate n f i b ∙ sym (h i b))
 
 -- the bytes of a number
 pub length-bytesOf : (k n : ℕ) → length (bytesOf k n) ≡ k

@@ -3,7 +3,6 @@ use Prim.Native.Nat.{ℕ, _+_, _-_, _*_, _/_, _%_, _^_}
 use lib.Bits.{bitAnd, bitOr, bitXor}
 
 infixl 60 _⊞_
-
 -- 3.2: addition modulo 2^32
 unfoldable pub _⊞_ : ℕ → ℕ → ℕ
 x ⊞ y = (x + y) % 2 ^ 32

@@ -39,7 +39,7 @@ fn word_at(block: &[u8], i: usize) -> u32
 // A message schedule whose first sixteen words are the block's, and the others not set yet.
 fn load(block: &[u8]) -> [u32; 64]
     requires { ⌜ length (now block) ≡ 64 ⌝ }
-    ensures { λ r. ⌜ take 16 r ≡ wordsOf (now (block .entry)) ⌝ }
+    ensures { λ r. ⌜ (length r ≡ 64) × (take 16 r ≡ wordsOf (now (block .entry))) ⌝ }
 {
     let mut w = [0u32; 64];
     let mut i = 0;
@@ -60,7 +60,10 @@ fn scheduled(w2: u32, w7: u32, w15: u32, w16: u32) -> u32
 fn first_sum(s: State, k: u32, w: u32) -> u32
     ensures { λ r. ⌜ r ≡ T1 k w (variables s) ⌝ }
 {
-    add(add(add(add(s.h, upper_sigma1(s.e)), choose(s.e, s.f, s.g)), k), w)
+    add(
+        add(add(add(s.h, upper_sigma1(s.e)), choose(s.e, s.f, s.g)), k),
+        w,
+    )
 }
 
 fn second_sum(s: State) -> u32

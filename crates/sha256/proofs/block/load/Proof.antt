@@ -30,7 +30,7 @@ returns : tie.Need-returns Inv-loop μ-loop
 unfolding wordsOf
 returns c =
     let at-end : c .before .loop .i ≡ 16 = omega arith in
-    rw at-end at (c .before .loop .inv .2)
+    (c .before .loop .inv .1, rw at-end at (c .before .loop .inv .2))
 
 pub load-spec : {M : Type 1} → statement M
 load-spec =

@@ -1,6 +1,6 @@
 -- `padding::padded_byte` meets its contract: each way out is one of the parts of a padded message.
 use mathlib.Core.Path.{_≡_, sym, ap, _∙_}
-use Prim.Native.Nat.{ℕ, _+_, _*_, _-_, _/_}
+use Prim.Native.Nat.{ℕ, _+_, _*_, _-_, _/_, _<_}
 use native.Mathlib.Omega.{arith}
 use lib.Arith.{lt-of-le-ne}
 use lib.ListN.{length}
