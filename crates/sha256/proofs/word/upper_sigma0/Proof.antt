@@ -6,7 +6,7 @@ use Rattle.sha256.proofs.word.upper_sigma0.Tie as tie
 
 returns : tie.Need-returns
 unfolding Σ0
-returns c = cc
+returns c = simp (c .rotate-right3 .ensures, c .before .rotate-right2 .ensures, c .before .before .rotate-right .ensures)
 
 pub upper-sigma0-spec : {M : Type 1} → statement M
 upper-sigma0-spec = tie.close (tie.spec (λ c κs. search needs) (λ c κs. search needs) (λ c κs. search needs) returns)
