@@ -16,13 +16,6 @@ use Rattle.sha256.proofs.HashValue.{rounds-more}
 use Rattle.sha256.proofs.Tabulate.{length-tabulate}
 use Rattle.sha256.proofs.block.hash_block.Statement.{statement}
 use Rattle.sha256.proofs.block.hash_block.Tie as tie
-use Rattle.sha256.proofs.block.hash_block.Reads as reads
-use Rattle.sha256.proofs.block.hash_block.Lts as lts
-use Rattle.sha256.proofs.block.add_states.Reads as add-states-reads
-use Rattle.sha256.proofs.block.load.Reads as load-reads
-use Rattle.sha256.proofs.block.scheduled.Reads as scheduled-reads
-use Rattle.sha256.proofs.block.turn.Reads as turn-reads
-use Rattle.sha256.proofs.constants.constants.Reads as constants-reads
 
 length-words : (m : List ℕ) → length (wordsOf m) ≡ 16
 unfolding wordsOf
@@ -84,31 +77,31 @@ hash-block-spec =
     (tie.spec
     Inv-loop
     μ-loop
-    (λ c κs. search needs)
+    (λ c κs. tt)
     (λ c κs. search needs)
     loop-holds
-    (λ c. search needs)
-    (λ c. search needs)
-    (λ c. search needs)
-    (λ c. search needs)
-    (λ c κs. search needs)
-    (λ c. search needs)
-    (λ c. search needs)
-    (λ c. search needs)
-    (λ c. search needs)
-    (λ c. search needs)
-    (λ c. search needs)
-    (λ c. search needs)
-    (λ c. search needs)
-    (λ c. search needs)
-    (λ c. search needs)
-    (λ c. search needs)
-    (λ c κs. search needs)
-    (λ c. search needs)
-    (λ c. search needs)
-    (λ c. search needs)
-    (λ c. search needs)
-    (λ c. search needs)
+    (λ c. omega arith)
+    (λ c. omega arith)
+    (λ c. omega arith)
+    (λ c. omega arith)
+    (λ c κs. tt)
+    (λ c. omega arith)
+    (λ c. omega arith)
+    (λ c. omega arith)
+    (λ c. omega arith)
+    (λ c. omega arith)
+    (λ c. omega arith)
+    (λ c. omega arith)
+    (λ c. omega arith)
+    (λ c. omega arith)
+    (λ c. omega arith)
+    (λ c. omega arith)
+    (λ c κs. tt)
+    (λ c. omega arith)
+    (λ c. omega arith)
+    (λ c. omega arith)
+    (λ c. omega arith)
+    (λ c. omega arith)
     loop-again
-    (λ c κs. search needs)
+    (λ c κs. tt)
     returns)
