@@ -1,7 +1,7 @@
 // The hash of one block: FIPS 180-4, 6.2.2.
 ghost use mathlib.Core.Path.{_≡_};
 ghost use Prim.Native.Nat.{_+_, _*_, _<_};
-ghost use lib.ListN.{length, take};
+ghost use lib.ListN.{length, getD, take};
 ghost use Rattle.sha256.specs.Bytes.{wordAt};
 ghost use Rattle.sha256.specs.Words.{_⊞_, σ0, σ1};
 ghost use Rattle.sha256.specs.Padding.{wordsOf};
@@ -50,11 +50,18 @@ fn load(block: &[u8]) -> [u32; 64]
     w
 }
 
-// A word of the message schedule of those 2, 7, 15 and 16 places before it.
-fn scheduled(w2: u32, w7: u32, w15: u32, w16: u32) -> u32
-    ensures { λ r. ⌜ r ≡ σ1 w2 ⊞ w7 ⊞ σ0 w15 ⊞ w16 ⌝ }
+// Word t + 16 of the message schedule, of the words before it.
+fn next_word(w: &[u32; 64], t: usize) -> u32
+    requires { ⌜ t < 48 ⌝ }
+    ensures { λ r. ⌜ r ≡ σ1 (getD (now (w .entry)) (t + 14) 0) ⊞ getD (now (w .entry)) (t + 9) 0 ⊞ σ0 (getD (now (w .entry)) (t + 1) 0) ⊞ getD (now (w .entry)) t 0 ⌝ }
 {
-    add(add(add(lower_sigma1(w2), w7), lower_sigma0(w15)), w16)
+    add(
+        add(
+            add(lower_sigma1(w[t + 14]), w[t + 9]),
+            lower_sigma0(w[t + 1]),
+        ),
+        w[t],
+    )
 }
 
 fn first_sum(s: State, k: u32, w: u32) -> u32
@@ -118,7 +125,7 @@ pub fn hash_block(value: State, block: &[u8]) -> State
     while t < 64 {
         s = turn(s, k[t], w[t]);
         if t < 48 {
-            w[t + 16] = scheduled(w[t + 14], w[t + 9], w[t + 1], w[t]);
+            w[t + 16] = next_word(&w, t);
         }
         t += 1;
     }

@@ -47,9 +47,9 @@ word-set c =
     let e : t + 1 + 16 ≡ t + 16 + 1 = omega arith in
     ⊎-elim
     (λ came.
-    let v = came .1 .result in
-    let next : v ≡ getD u (t + 16) 0 = came .1 .ensures ∙ holds-next m w t (length-words _) (came .0 .taken) (inv .2) in
-    rw (came .2, e) (simp length-set (inv .1), holds-more u w (t + 16) v (omega arith) next (inv .2)))
+    let v = came .2 .result in
+    let next : v ≡ getD u (t + 16) 0 = came .2 .ensures ∙ holds-next m w t (length-words _) (came .0 .taken) (inv .2) in
+    rw (came .3, e) (simp length-set (inv .1), holds-more u w (t + 16) v (omega arith) next (inv .2)))
     (λ came. rw (came .1) (inv .1, λ i lt fits. inv .2 i (omega arith) fits))
     (c .if1 .came)
 
@@ -85,18 +85,7 @@ hash-block-spec =
     (λ c. omega arith)
     (λ c. omega arith)
     (λ c κs. tt)
-    (λ c. omega arith)
-    (λ c. omega arith)
-    (λ c. omega arith)
-    (λ c. omega arith)
-    (λ c. omega arith)
-    (λ c. omega arith)
-    (λ c. omega arith)
-    (λ c. omega arith)
-    (λ c. omega arith)
-    (λ c. omega arith)
-    (λ c. omega arith)
-    (λ c κs. tt)
+    (λ c κs. omega arith)
     (λ c. omega arith)
     (λ c. omega arith)
     (λ c. omega arith)
