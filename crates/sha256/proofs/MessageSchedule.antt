@@ -2,7 +2,6 @@
 use mathlib.Core.Path.{_≡_, refl, sym, ap, _∙_}
 use mathlib.Core.List.{List, [], _∷_, _++_}
 use Prim.Native.Nat.{ℕ, zero, suc, _+_, _-_, _<_, _≤_}
-use native.Mathlib.Nat.{not-suc-le-zero}
 use native.Mathlib.Decide.{decLt}
 use native.Mathlib.Omega.{arith}
 use lib.ListN.{length, getD, set, take, length-append, List·getD-append}
@@ -48,7 +47,7 @@ abbrev pub Holds : List ℕ → List ℕ → ℕ → Type 0
 Holds u w n = (i : ℕ) → i < n → i < 64 → getD w i 0 ≡ getD u i 0
 
 -- a store of the word at n
-pub holds-more : (u w : List ℕ) (n v : ℕ) → n < length w → v ≡ getD u n 0 → Holds u w n → Holds u (set w n v) (n + 1)
+holds-more : (u w : List ℕ) (n v : ℕ) → n < length w → v ≡ getD u n 0 → Holds u w n → Holds u (set w n v) (n + 1)
 holds-more u w n v h e holds i lt fits =
     elim (decLt i n) [
       | yes below ↦ getD-set-other w n i v 0 (λ same. omega arith) ∙ holds i below fits
@@ -63,7 +62,7 @@ holds-first n m w e h i lt fits =
     sym (getD-take 16 w i 0 lt) ∙ ap (λ (l : List ℕ). getD l i 0) h ∙ sym (schedule-first n m i (omega arith))
 
 -- the word after those that the array holds, as the array's words give it
-pub holds-next : (m w : List ℕ) (t : ℕ) → length m ≡ 16 → t < 48 → Holds (schedule 48 m) w (t + 16)
+holds-next : (m w : List ℕ) (t : ℕ) → length m ≡ 16 → t < 48 → Holds (schedule 48 m) w (t + 16)
     → σ1 (getD w (t + 14) 0) ⊞ getD w (t + 9) 0 ⊞ σ0 (getD w (t + 1) 0) ⊞ getD w t 0 ≡ getD (schedule 48 m) (t + 16) 0
 unfolding nextWord
 holds-next m w t e h holds =
@@ -71,3 +70,14 @@ holds-next m w t e h holds =
     λ k pos le i same. holds i (omega arith) (omega arith) ∙ ap (λ (j : ℕ). getD (schedule 48 m) j 0) same in
     rw (at 2 (omega arith) (omega arith) (t + 14) (omega arith), at 7 (omega arith) (omega arith) (t + 9) (omega arith), at 15 (omega arith) (omega arith) (t + 1) (omega arith), at 16 (omega arith) (omega arith) t (omega arith))
     (sym (schedule-next 48 m (t + 16) e (omega arith) (omega arith)))
+
+-- a turn that stores the next word
+pub holds-step : (m w : List ℕ) (t v : ℕ) → length m ≡ 16 → length w ≡ 64 → t < 48 → Holds (schedule 48 m) w (t + 16)
+    → v ≡ σ1 (getD w (t + 14) 0) ⊞ getD w (t + 9) 0 ⊞ σ0 (getD w (t + 1) 0) ⊞ getD w t 0 → Holds (schedule 48 m) (set w (t + 16) v) (t + 1 + 16)
+holds-step m w t v e l h holds ev =
+    let next : t + 1 + 16 ≡ t + 16 + 1 = omega arith in
+    rw next (holds-more (schedule 48 m) w (t + 16) v (omega arith) (ev ∙ holds-next m w t e h holds) holds)
+
+-- a turn after the last word is stored
+pub holds-all : (u w : List ℕ) (t : ℕ) → 48 ≤ t → Holds u w (t + 16) → Holds u w (t + 1 + 16)
+holds-all u w t h holds i lt fits = holds i (omega arith) fits

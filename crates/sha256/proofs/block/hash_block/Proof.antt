@@ -1,17 +1,17 @@
 -- `block::hash_block` meets its contract. The loop's invariant: the array holds the first t + 16 words of the message schedule, and
 -- the working variables are those after t rounds.
-use mathlib.Core.Path.{_≡_, refl, sym, ap, _∙_}
+use mathlib.Core.Path.{_≡_, refl, ap, _∙_}
 use mathlib.Core.List.{List}
 use mathlib.Core.Logic.{⊎-elim}
 use Prim.Native.Nat.{ℕ, _≤_, _+_, _-_}
 use native.Mathlib.Omega.{arith}
-use lib.ListN.{length, getD, length-set}
+use lib.ListN.{length, length-set}
 use borrow.Author.Needs.{needs}
 use Rattle.sha256.specs.State.{variables}
 use Rattle.sha256.specs.Words.{Variables}
 use Rattle.sha256.specs.Padding.{wordsOf}
 use Rattle.sha256.specs.Sha256.{schedule, rounds, added, compress}
-use Rattle.sha256.proofs.MessageSchedule.{Holds, holds-first, holds-more, holds-next}
+use Rattle.sha256.proofs.MessageSchedule.{Holds, holds-first, holds-step, holds-all}
 use Rattle.sha256.proofs.HashValue.{rounds-more}
 use Rattle.sha256.proofs.Tabulate.{length-tabulate}
 use Rattle.sha256.proofs.block.hash_block.Statement.{statement}
@@ -40,17 +40,12 @@ word-set : (c : tie.Joined1 Inv-loop μ-loop) → (length (c .if1 .w) ≡ 64) ×
 word-set c =
     let at-loop = c .before .before .before in
     let m = wordsOf (at-loop .before .before .before .before .args .block .now) in
-    let u = schedule 48 m in
     let w = at-loop .loop .w in
     let t = at-loop .loop .t in
     let inv = at-loop .loop .inv in
-    let e : t + 1 + 16 ≡ t + 16 + 1 = omega arith in
     ⊎-elim
-    (λ came.
-    let v = came .2 .result in
-    let next : v ≡ getD u (t + 16) 0 = came .2 .ensures ∙ holds-next m w t (length-words _) (came .0 .taken) (inv .2) in
-    rw (came .3, e) (simp length-set (inv .1), holds-more u w (t + 16) v (omega arith) next (inv .2)))
-    (λ came. rw (came .1) (inv .1, λ i lt fits. inv .2 i (omega arith) fits))
+    (λ came. rw (came .3) (simp length-set (inv .1), holds-step m w t (came .2 .result) (length-words _) (inv .1) (came .0 .taken) (inv .2) (came .2 .ensures)))
+    (λ came. rw (came .1) (inv .1, holds-all (schedule 48 m) w t (came .0 .left) (inv .2)))
     (c .if1 .came)
 
 loop-again : tie.Need-loop-again Inv-loop μ-loop
