@@ -55,7 +55,7 @@ loop-again c =
     let u = schedule 48 (wordsOf (start .args .block .now)) in
     let t = at-loop .loop .t in
     let inv = at-loop .loop .inv in
-    (omega arith, word-set c .0, word-set c .1, rounds-more (at-loop .before .before .constants .result) (at-loop .loop .w) u t (variables (start .args .value)) (variables (at-loop .loop .s)) (variables (c .before .turn .result)) (at-loop .before .before .constants .ensures) (inv .2 t (omega arith) (omega arith)) (inv .3) (c .before .turn .ensures))
+    (omega arith, word-set c .0, word-set c .1, rounds-more (at-loop .before .before .constants .result) (at-loop .loop .w) u t (variables (start .args .value)) (variables (at-loop .loop .s)) (variables (c .before .round .result)) (at-loop .before .before .constants .ensures) (inv .2 t (omega arith) (omega arith)) (inv .3) (c .before .round .ensures))
 
 returns : tie.Need-returns Inv-loop μ-loop
 unfolding compress
@@ -80,8 +80,8 @@ hash-block-spec =
     (λ c. omega arith)
     (λ c. omega arith)
     (λ c κs. tt)
-    (λ c κs. omega arith)
     (λ c. omega arith)
+    (λ c κs. omega arith)
     (λ c. omega arith)
     (λ c. omega arith)
     (λ c. omega arith)
