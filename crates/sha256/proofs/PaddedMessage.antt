@@ -19,8 +19,11 @@ fewest : (n k : ℕ) → (8 * n + 1 + k) % 512 ≡ 448 → 7 + 8 * zeroBytes n �
 unfolding zeroBytes
 fewest n k h = omega arith
 
--- where the length in bits begins
-body : (n : ℕ) → n + (1 + zeroBytes n) ≡ 64 * ((n + 8) / 64 + 1) - 8
+-- where the length in bits begins in the padding of n bytes
+abbrev pub lengthAt : ℕ → ℕ
+lengthAt n = 64 * ((n + 8) / 64 + 1) - 8
+
+body : (n : ℕ) → n + (1 + zeroBytes n) ≡ lengthAt n
 unfolding zeroBytes
 body n = omega arith
 
@@ -28,7 +31,7 @@ body n = omega arith
 front : List ℕ → List ℕ
 front m = m ++ 0x80 ∷ replicate (zeroBytes (length m)) 0
 
-length-front : (m : List ℕ) → length (front m) ≡ 64 * ((length m + 8) / 64 + 1) - 8
+length-front : (m : List ℕ) → length (front m) ≡ lengthAt (length m)
 unfolding front
 length-front m = simp (length-append, length-replicate) (omega (arith, body (length m)))
 
@@ -42,7 +45,7 @@ blockCount-pad m = rw length-pad (omega arith)
 
 module _ (m : List ℕ) (i : ℕ) where
   -- a byte before the length in bits
-  front-at : i < 64 * ((length m + 8) / 64 + 1) - 8 → getD (pad m) i 0 ≡ getD (front m) i 0
+  front-at : i < lengthAt (length m) → getD (pad m) i 0 ≡ getD (front m) i 0
   unfolding pad front
   front-at h = List·getD-append (front m) (bytesOf 8 (8 * length m)) 0 i (rw length-front h)
 
@@ -57,7 +60,7 @@ module _ (m : List ℕ) (i : ℕ) where
   pad-one e = front-at (omega arith) ∙ getD-at m 0x80 (replicate (zeroBytes (length m)) 0) 0 i (sym e)
 
   -- a zero byte
-  pub pad-zero : length m < i → i < 64 * ((length m + 8) / 64 + 1) - 8 → getD (pad m) i 0 ≡ 0
+  pub pad-zero : length m < i → i < lengthAt (length m) → getD (pad m) i 0 ≡ 0
   unfolding front
   pad-zero low high =
       let n : ℕ = zeroBytes (length m) in
@@ -67,11 +70,11 @@ module _ (m : List ℕ) (i : ℕ) where
       ∙ getD-append-add m (0x80 ∷ replicate n 0) (suc k) 0 ∙ getD-replicate n k 0 0 (omega (arith, body (length m)))
 
   -- a byte of the length in bits
-  pub pad-length : 64 * ((length m + 8) / 64 + 1) - 8 ≤ i → i < length (pad m)
-      → getD (pad m) i 0 ≡ byteOf 8 (8 * length m) (i - (64 * ((length m + 8) / 64 + 1) - 8))
+  pub pad-length : lengthAt (length m) ≤ i → i < length (pad m)
+      → getD (pad m) i 0 ≡ byteOf 8 (8 * length m) (i - (lengthAt (length m)))
   unfolding pad front
   pad-length low high =
-      let j : ℕ = i - (64 * ((length m + 8) / 64 + 1) - 8) in
+      let j : ℕ = i - (lengthAt (length m)) in
       let at : i ≡ length (front m) + j = omega (arith, length-front m) in
       ap (λ (k : ℕ). getD (pad m) k 0) at ∙ getD-append-add (front m) (bytesOf 8 (8 * length m)) j 0
       ∙ getD-bytesOf 8 (8 * length m) j (omega (arith, length-pad m))

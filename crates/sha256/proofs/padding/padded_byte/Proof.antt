@@ -1,12 +1,12 @@
 -- `padding::padded_byte` meets its contract: each way out is one of the parts of a padded message.
 use mathlib.Core.Path.{_≡_, sym, ap, _∙_}
-use Prim.Native.Nat.{ℕ, _+_, _*_, _-_, _/_, _<_}
+use Prim.Native.Nat.{ℕ, _*_, _-_, _<_}
 use native.Mathlib.Omega.{arith}
 use lib.Arith.{lt-of-le-ne}
 use lib.ListN.{length}
 use borrow.Author.Needs.{needs}
 use Rattle.sha256.specs.Bytes.{byteOf}
-use Rattle.sha256.proofs.PaddedMessage.{pad-message, pad-one, pad-zero, pad-length, length-pad}
+use Rattle.sha256.proofs.PaddedMessage.{lengthAt, pad-message, pad-one, pad-zero, pad-length, length-pad}
 use Rattle.sha256.proofs.padding.padded_byte.Statement.{statement}
 use Rattle.sha256.proofs.padding.padded_byte.Tie as tie
 
@@ -37,7 +37,7 @@ returns-4 c =
     let start = c .before .before .before .before .before .before in
     let m = start .args .message .now in
     let at = start .args .at in
-    let end : 64 * c .before .before .block-count .result - 8 ≡ 64 * ((length m + 8) / 64 + 1) - 8 = omega arith in
+    let end : 64 * c .before .before .block-count .result - 8 ≡ lengthAt (length m) = omega arith in
     c .length-byte .ensures ∙ ap (λ (e : ℕ). byteOf 8 (8 * length m) (at - e)) end ∙ sym (pad-length m at (omega arith) (start .pre .1))
 
 pub padded-byte-spec : {M : Type 1} → statement M
