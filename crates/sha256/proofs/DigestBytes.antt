@@ -10,7 +10,7 @@ use lib.ListN.{length, getD, length-append, List·getD-append, List·getD-eq-def
 use lib.Seq.{getD-append-add}
 use Rattle.sha256.specs.Bytes.{byteOf, bytesOf}
 use Rattle.sha256.specs.Sha256.{joined, hashWords, sha256}
-use Rattle.sha256.proofs.Tabulate.{length-bytesOf, getD-bytesOf}
+use Rattle.sha256.proofs.NumberBytes.{length-bytesOf, getD-bytesOf}
 
 pub length-joined : (ws : List ℕ) → length (joined ws) ≡ 4 * length ws
 unfolding joined

@@ -7,7 +7,7 @@ use lib.ListN.{length, getD, take, drop, replicate, length-append, length-replic
 use lib.Seq.{getD-append-add, getD-at, getD-take, getD-drop, take-append-le, drop-append-le, length-take-le}
 use Rattle.sha256.specs.Bytes.{byteOf, bytesOf}
 use Rattle.sha256.specs.Padding.{zeroBytes, pad, blockCount, block}
-use Rattle.sha256.proofs.Tabulate.{length-bytesOf, getD-bytesOf}
+use Rattle.sha256.proofs.NumberBytes.{length-bytesOf, getD-bytesOf}
 
 -- 5.1.1 of FIPS 180-4: k = 7 + 8 zeroBytes is a solution of l + 1 + k = 448 modulo 512 for a message of l = 8n bits
 fills : (n : ℕ) → (8 * n + 1 + (7 + 8 * zeroBytes n)) % 512 ≡ 448

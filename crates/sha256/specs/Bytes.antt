@@ -1,12 +1,8 @@
--- Lists given by a rule for each place, and numbers as bytes, high byte first (FIPS 180-4, 3.1).
-use mathlib.Core.List.{List, [], _∷_, _++_}
-use Prim.Native.Nat.{ℕ, zero, suc, _+_, _-_, _*_, _/_, _%_, _^_}
+-- Numbers as bytes, high byte first (FIPS 180-4, 3.1).
+use mathlib.Core.List.{List}
+use Prim.Native.Nat.{ℕ, _+_, _-_, _*_, _/_, _%_, _^_}
 use lib.ListN.{getD}
-
--- f 0, f 1, .., f (n - 1)
-unfoldable pub tabulate : ℕ → (ℕ → ℕ) → List ℕ
-tabulate zero f = []
-tabulate (suc n) f = tabulate n f ++ (f n ∷ [])
+use Rattle.slices.specs.Slices.{tabulate}
 
 -- 3.1: byte j of a number of k bytes, the high byte first
 unfoldable pub byteOf : ℕ → ℕ → ℕ → ℕ

@@ -1,19 +1,8 @@
--- What `digest` returns and leaves in the output that is lent to it.
-use mathlib.Core.Bool.{Bool, cond, _&&_}
-use mathlib.Core.List.{List}
+-- What `digest` refuses.
 use Prim.Native.Nat.{ℕ}
 use lib.Dec.{leb, eqb}
-use lib.ListN.{length}
-use Rattle.sha256.specs.Sha256.{sha256}
+use Rattle.refusal.specs.Refusal.{unless, _orElse_}
 
--- a message of n bytes is hashed into an output of k bytes: at most 65,535, and 32
-unfoldable pub accepted : ℕ → ℕ → Bool
-accepted n k = leb n 65535 && eqb k 32
-
--- 0, or 2 where the call is refused
-unfoldable pub refusal : ℕ → ℕ → ℕ
-refusal n k = cond (accepted n k) 0 2
-
--- the output: the message's digest, or what it was where the call is refused
-unfoldable pub digestOut : List ℕ → List ℕ → List ℕ
-digestOut message out = cond (accepted (length message) (length out)) (sha256 message) out
+-- "SHA-256 here takes messages of 0 to 65,535 bytes; a longer one is 2." "Outputs count as arguments with an exact length."
+unfoldable pub digestRefusal : ℕ → ℕ → ℕ
+digestRefusal message out = unless (leb message 65535) 2 orElse unless (eqb out 32) 2

@@ -2,7 +2,8 @@
 use mathlib.Core.Path.{_≡_, refl}
 use mathlib.Core.List.{List, [], _∷_}
 use Prim.Native.Nat.{ℕ}
-use Rattle.sha256.specs.Bytes.{tabulate, byteOf, bytesOf, wordAt}
+use Rattle.slices.specs.Slices.{tabulate}
+use Rattle.sha256.specs.Bytes.{byteOf, bytesOf, wordAt}
 use Rattle.sha256.specs.Words.{_⊞_, SHR, ROTR, Ch, Maj, Σ0, Σ1, σ0, σ1}
 use Rattle.sha256.specs.Constants.{K, initial}
 use Rattle.sha256.specs.Padding.{zeroBytes, pad, blockCount, block, wordsOf}

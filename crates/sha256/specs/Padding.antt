@@ -2,7 +2,8 @@
 use mathlib.Core.List.{List, _∷_, _++_}
 use Prim.Native.Nat.{ℕ, _-_, _*_, _/_, _%_}
 use lib.ListN.{length, take, drop, replicate}
-use Rattle.sha256.specs.Bytes.{tabulate, bytesOf, wordAt}
+use Rattle.slices.specs.Slices.{tabulate}
+use Rattle.sha256.specs.Bytes.{bytesOf, wordAt}
 
 -- 5.1.1: the zero bytes that follow the one bit and seven zero bits; k is 7 + 8 zeroBytes, the smallest solution (`fills` and `fewest`
 -- of proofs/PaddedMessage.antt)

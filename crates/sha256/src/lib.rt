@@ -8,7 +8,8 @@ ghost use Rattle.sha256.specs.Bytes.{byteOf};
 ghost use Rattle.sha256.specs.Padding.{pad, blockCount};
 ghost use Rattle.sha256.specs.Sha256.{hashValue, hashWords, sha256};
 ghost use Rattle.sha256.specs.State.{variables};
-ghost use Rattle.sha256.specs.Digest.{refusal, digestOut};
+ghost use Rattle.refusal.specs.Refusal.{kept};
+ghost use Rattle.sha256.specs.Digest.{digestRefusal};
 use crate::block::hash_block;
 use crate::constants::initial_state;
 use crate::padding::block_count;
@@ -85,8 +86,8 @@ pub fn hash(message: &[u8]) -> [u8; 32]
 // Writes the digest of a message to out and returns 0; or returns 2 and leaves out as it was, where the message is longer than
 // 65,535 bytes or out is not 32 bytes long.
 pub fn digest(message: &[u8], out: &mut [u8]) -> u8
-    ensures { λ r. ⌜ (r ≡ refusal (length (now (message .entry))) (length (now (out .entry))))
-        × (now (out .exit) ≡ digestOut (now (message .entry)) (now (out .entry))) ⌝ }
+    ensures { λ r. ⌜ (r ≡ digestRefusal (length (now (message .entry))) (length (now (out .entry))))
+        × (now (out .exit) ≡ kept r (now (out .entry)) (sha256 (now (message .entry)))) ⌝ }
 {
     if message.len() > 65535 {
         return 2;

@@ -4,8 +4,9 @@ use mathlib.Core.Path.{_≡_, refl, sym, ap, ap₂, _∙_}
 use mathlib.Core.List.{List, [], _∷_, _++_, append-assoc, append-nil}
 use native.Mathlib.Nat.{not-suc-le-zero, le-of-suc-le-suc}
 use native.Mathlib.Numerals.{add-one}
-use lib.ListN.{length, drop, set, List·getD-eq-default}
-use lib.Seq.{ext-getD, drop-cons, drop-length, set-at}
+use native.Mathlib.Omega.{arith}
+use lib.ListN.{length, take, drop, set, length-set, List·getD-eq-default}
+use lib.Seq.{ext-getD, drop-cons, drop-length, set-at, take-all, take-suc-set}
 use Rattle.slices.specs.Slices.{_!_, tabulate}
 
 pub length-tabulate : (n : ℕ) (f : ℕ → ℕ) → length (tabulate n f) ≡ n
@@ -49,3 +50,21 @@ fill-step d l f i v e h ev =
 
 pub fill-end : (d l : List ℕ) (f : ℕ → ℕ) (i : ℕ) → l ≡ tabulate i f ++ drop i d → i ≡ length d → l ≡ tabulate (length d) f
 fill-end d l f i e h = e ∙ rw (h, drop-length, append-nil)
+
+-- ---- a loop that fills the first n of an array's k places
+
+-- the first i of them are filled by the rule f
+abbrev pub Filled : (ℕ → ℕ) → ℕ → ℕ → List ℕ → ℕ → Type 0
+Filled f n k l i = (i ≤ n) × (length l ≡ k) × (take i l ≡ tabulate i f)
+
+-- a store at i of what the rule gives there
+pub fill-more : (f : ℕ → ℕ) (n k : ℕ) (l : List ℕ) (i v : ℕ) → n ≤ k → i < n → Filled f n k l i → v ≡ f i → Filled f n k (set l i v) (i + 1)
+fill-more f n k l i v room h (le, len, e) ev =
+    let below : i < length l = omega arith in
+    (omega arith, length-set l i v ∙ len, rw (add-one, take-suc-set, tabulate-snoc) (simp (e, ev)))
+
+-- an array that is filled to its end is the list
+pub filled : (f : ℕ → ℕ) (n : ℕ) (l : List ℕ) (i : ℕ) → n ≤ i → Filled f n n l i → l ≡ tabulate n f
+filled f n l i past (le, len, e) =
+    let at-end : i ≡ n = omega arith in
+    sym (take-all i l (omega arith)) ∙ e ∙ ap (λ (k : ℕ). tabulate k f) at-end

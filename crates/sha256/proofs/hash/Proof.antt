@@ -1,13 +1,14 @@
 -- `hash` meets its contract. The loop's invariant: the first i bytes of the array are those of the hash value's words.
-use mathlib.Core.Path.{_≡_, refl, ap, _∙_}
+use mathlib.Core.Path.{_≡_, refl, sym, ap, _∙_}
 use mathlib.Core.List.{List}
 use Prim.Native.Nat.{ℕ, _*_, _-_, _/_, _%_}
 use native.Mathlib.Omega.{arith}
 use lib.ListN.{length, getD}
 use borrow.Author.Needs.{needs}
-use Rattle.sha256.specs.Bytes.{tabulate, byteOf}
+use Rattle.slices.specs.Slices.{tabulate}
+use Rattle.sha256.specs.Bytes.{byteOf}
 use Rattle.sha256.specs.Sha256.{joined, hashWords, sha256}
-use Rattle.sha256.proofs.Tabulate.{tabulated, Filled, fill-more, filled}
+use Rattle.slices.proofs.Tabulate.{tabulate-of, Filled, fill-more, filled}
 use Rattle.sha256.proofs.DigestBytes.{length-joined, joined-at}
 use Rattle.sha256.proofs.hash.Statement.{statement}
 use Rattle.sha256.proofs.hash.Tie as tie
@@ -18,7 +19,7 @@ joinedByte w i = byteOf 4 (getD w (i / 4) 0) (i % 4)
 
 joined-bytes : (w : List ℕ) (n : ℕ) → 4 * length w ≡ n → tabulate n (joinedByte w) ≡ joined w
 unfolding joinedByte
-joined-bytes w n e = tabulated (joined w) n (joinedByte w) (length-joined w ∙ e) (λ i h. joined-at w i (omega arith))
+joined-bytes w n e = sym (tabulate-of (joined w) n (joinedByte w) (length-joined w ∙ e) (λ i h. joined-at w i (omega arith)))
 
 abbrev Inv-loop : tie.InvT-loop
 Inv-loop message w out₀ i₀ out i = Filled (joinedByte w) 32 32 out i

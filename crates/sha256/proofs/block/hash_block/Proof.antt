@@ -13,7 +13,7 @@ use Rattle.sha256.specs.Padding.{wordsOf}
 use Rattle.sha256.specs.Sha256.{schedule, rounds, added, compress}
 use Rattle.sha256.proofs.MessageSchedule.{Holds, holds-first, holds-step, holds-all}
 use Rattle.sha256.proofs.HashValue.{rounds-more}
-use Rattle.sha256.proofs.Tabulate.{length-tabulate}
+use Rattle.slices.proofs.Tabulate.{length-tabulate}
 use Rattle.sha256.proofs.block.hash_block.Statement.{statement}
 use Rattle.sha256.proofs.block.hash_block.Tie as tie
 

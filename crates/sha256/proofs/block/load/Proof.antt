@@ -3,9 +3,10 @@ use mathlib.Core.Path.{_≡_, refl}
 use Prim.Native.Nat.{_-_}
 use native.Mathlib.Omega.{arith}
 use borrow.Author.Needs.{needs}
-use Rattle.sha256.specs.Bytes.{tabulate, wordAt}
+use Rattle.slices.specs.Slices.{tabulate}
+use Rattle.sha256.specs.Bytes.{wordAt}
 use Rattle.sha256.specs.Padding.{wordsOf}
-use Rattle.sha256.proofs.Tabulate.{Filled, fill-more}
+use Rattle.slices.proofs.Tabulate.{Filled, fill-more}
 use Rattle.sha256.proofs.block.load.Statement.{statement}
 use Rattle.sha256.proofs.block.load.Tie as tie
 

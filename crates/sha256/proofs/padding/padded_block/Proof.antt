@@ -1,13 +1,13 @@
 -- `padding::padded_block` meets its contract. The loop's invariant: the first j bytes of the array are the padded message's from
 -- 64i on.
-use mathlib.Core.Path.{refl, _∙_}
+use mathlib.Core.Path.{refl, sym, _∙_}
 use Prim.Native.Nat.{ℕ, _+_, _*_, _-_}
 use native.Mathlib.Omega.{arith}
 use lib.ListN.{getD}
 use borrow.Author.Needs.{needs}
-use Rattle.sha256.specs.Bytes.{tabulate}
+use Rattle.slices.specs.Slices.{tabulate}
 use Rattle.sha256.specs.Padding.{pad, block}
-use Rattle.sha256.proofs.Tabulate.{tabulated, Filled, fill-more, filled}
+use Rattle.slices.proofs.Tabulate.{tabulate-of, Filled, fill-more, filled}
 use Rattle.sha256.proofs.PaddedMessage.{length-pad, blockCount-pad, length-block, block-at}
 use Rattle.sha256.proofs.padding.padded_block.Statement.{statement}
 use Rattle.sha256.proofs.padding.padded_block.Tie as tie
@@ -47,7 +47,7 @@ returns c =
     let i = start .args .i in
     let f : ℕ → ℕ = λ k. getD p (64 * i + k) 0 in
     filled f 64 (at-loop .loop .b) (at-loop .loop .j) (c .loop-test .left) (at-loop .loop .inv)
-    ∙ tabulated (block p i) 64 f (length-block p i (start .pre .1)) (block-at p i (start .pre .1))
+    ∙ sym (tabulate-of (block p i) 64 f (length-block p i (start .pre .1)) (block-at p i (start .pre .1)))
 
 pub padded-block-spec : {M : Type 1} → statement M
 padded-block-spec =
