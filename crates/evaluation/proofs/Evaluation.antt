@@ -15,8 +15,9 @@ use Rattle.field.proofs.Vectors.{vector-cong}
 use Rattle.system.specs.Polynomial.{pairs, polynomial}
 use Rattle.system.specs.System.{qOf, nOf, mOf, opsOf, width, triangle, quadratic, linear, F, G}
 use Rattle.evaluation.specs.Monomials.{monomial, Monomials, timesRow}
-use Rattle.evaluation.proofs.Forms.{polar, pairs-cong}
-use Rattle.evaluation.proofs.Laws.{expanded, G-expanded}
+use Rattle.evaluation.specs.Polar.{polar, expanded}
+use Rattle.evaluation.proofs.Forms.{pairs-cong}
+use Rattle.evaluation.proofs.Laws.{G-expanded}
 use Rattle.system.proofs.SystemLayout.{triangle-whole, width-is}
 
 module _ (o : Ops) (k : Field o) where

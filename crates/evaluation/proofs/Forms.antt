@@ -7,10 +7,7 @@ use Rattle.field.specs.Field.{Field}
 use Rattle.field.specs.Vector.{sum}
 use Rattle.field.proofs.Sums.{add-left-comm, add-mul, mul-left-comm, sum-below, sum-cong, sum-add, sum-mul}
 use Rattle.system.specs.Polynomial.{pairs, polynomial}
-
--- the polar form of a polynomial, from its coefficients: no b, and a(i,i) twice
-unfoldable pub polar : Ops → ℕ → (ℕ → ℕ → ℕ) → (ℕ → ℕ) → (ℕ → ℕ) → ℕ
-polar o n a x y = pairs o n (λ i j. o .mul (a i j) (o .add (o .mul (x i) (y j)) (o .mul (y i) (x j))))
+use Rattle.evaluation.specs.Polar.{polar}
 
 module _ (o : Ops) (k : Field o) where
   open Ops o using (size, add, sub, mul)

@@ -12,11 +12,8 @@ use Rattle.field.proofs.Vectors.{vector-at, vector-cong}
 use Rattle.field.proofs.Sums.{sub-of}
 use Rattle.system.specs.Polynomial.{polynomial}
 use Rattle.system.specs.System.{qOf, nOf, mOf, opsOf, quadratic, linear, F, G}
-use Rattle.evaluation.proofs.Forms.{polar, polar-below, polynomial-below, polynomial-cong, polynomial-add, polar-cong, polar-comm, polar-add, polar-mul}
-
--- G from the coefficients: what the code computes
-unfoldable pub expanded : List ℕ → List ℕ → List ℕ → List ℕ
-expanded b x y = vector (mOf b) (λ l. polar (opsOf b) (nOf b) (quadratic b l) (λ i. x ! i) (λ i. y ! i))
+use Rattle.evaluation.specs.Polar.{polar, expanded}
+use Rattle.evaluation.proofs.Forms.{polar-below, polynomial-below, polynomial-cong, polynomial-add, polar-cong, polar-comm, polar-add, polar-mul}
 
 -- what is left of a sum when its first two parts are taken away
 sub-sub : (o : Ops) (k : Field o) (s p q r : ℕ) → r < o .size → s ≡ o .add p (o .add q r) → o .sub (o .sub s p) q ≡ r
