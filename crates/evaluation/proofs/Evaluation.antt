@@ -15,7 +15,7 @@ use Rattle.field.proofs.Vectors.{vector-cong}
 use Rattle.system.specs.Polynomial.{pairs, polynomial}
 use Rattle.system.specs.System.{qOf, nOf, mOf, opsOf, width, triangle, quadratic, linear, F, G}
 use Rattle.evaluation.specs.Monomials.{monomial, Monomials, timesRow}
-use Rattle.evaluation.specs.Polar.{polar, expanded}
+use Rattle.evaluation.specs.Polar.{crossed, polar, expanded}
 use Rattle.evaluation.proofs.Forms.{pairs-cong}
 use Rattle.evaluation.proofs.Laws.{G-expanded}
 use Rattle.system.proofs.SystemLayout.{triangle-whole, width-is}
@@ -74,7 +74,7 @@ module _ (b : List ℕ) (small : nOf b ≤ 96) where
 
   pub polarised : (x y row : List ℕ) → Monomials (opsOf b) (nOf b) x y y (replicate 96 0) row →
       timesRow b row ≡ G b x y
-  unfolding timesRow expanded polar quadratic pairs
+  unfolding timesRow expanded polar crossed quadratic pairs
   polarised x y row m =
       vector-cong (mOf b) _ _ (λ l h below.
       row-product (opsOf b) (field (qOf b)) (nOf b) (λ i. b ! (3 + l * width (nOf b) + i)) x y y (replicate 96 0) row m ∙
