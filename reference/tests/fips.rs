@@ -48,7 +48,7 @@ fn constants_are_fractions_of_roots() {
 }
 
 fn primes(count: usize) -> Vec<u128> {
-    let is_prime = |n: &u128| (2..*n).all(|d| n % d > 0);
+    let is_prime = |n: &u128| (2..*n).all(|d| !n.is_multiple_of(d));
     (2..).filter(is_prime).take(count).collect()
 }
 

@@ -7,6 +7,11 @@ use crate::entries;
 /// unwritten is seen.
 pub const FILL: u8 = 255;
 
+/// The most bytes that the programs' buffers take: a message, a system, any other piece.
+const MOST_OF_MESSAGE: usize = 66_000;
+const MOST_OF_SYSTEM: usize = 500_000;
+const MOST_OF_OTHERS: usize = 256;
+
 /// One call: the entry, its arguments, and the length of its output.
 #[derive(Clone, Debug, PartialEq, Eq)]
 pub enum Call {
@@ -83,8 +88,19 @@ impl Call {
         }
     }
 
+    /// Do all pieces fit the programs' buffers?
+    fn fits(&self) -> bool {
+        let most_of_first = match self {
+            Call::Digest { .. } => MOST_OF_MESSAGE,
+            _ => MOST_OF_SYSTEM,
+        };
+        let lengths: Vec<usize> = self.inputs().iter().map(|piece| piece.length()).collect();
+        lengths[0] <= most_of_first && lengths[1..].iter().all(|&length| length <= MOST_OF_OTHERS)
+    }
+
     /// Appends the case to a file: kind, number, fill, the inputs, the output expected.
     fn encode(&self, file: &mut Vec<u8>) {
+        assert!(self.fits(), "a case that the programs have room for");
         let answer = self.answer();
         file.extend([self.kind(), answer.number, FILL]);
         for piece in self.inputs() {

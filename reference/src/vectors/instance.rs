@@ -77,12 +77,12 @@ impl Shape {
 /// place of the pattern only if the prime divides l - k, which is less.
 pub fn period(width: usize) -> usize {
     (97..)
-        .find(|&number| is_prime(number) && width % number > 0)
+        .find(|&number| is_prime(number) && !width.is_multiple_of(number))
         .expect("primes go on")
 }
 
 fn is_prime(number: usize) -> bool {
-    number > 1 && (2..number).all(|divisor| number % divisor > 0)
+    number > 1 && (2..number).all(|divisor| !number.is_multiple_of(divisor))
 }
 
 /// The arguments of F or of G. F has no y.

@@ -140,7 +140,7 @@ fn several_faults() -> Vec<Piece> {
         (7, 2, 0),
         (7, 97, 2),
         (7, 2, 97),
-        (0, 255, 255),
+        (0, 97, 97),
     ];
     let mut systems = Vec::new();
     for (q, n, m) in bad_heads {
