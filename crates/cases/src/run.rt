@@ -1,6 +1,6 @@
 // A run through a file: which case comes next, and the counts, printed group by group.
 ghost use mathlib.Core.Path.{_≡_};
-ghost use mathlib.Core.Bool.{true};
+ghost use mathlib.Core.Bool.{true, false};
 ghost use Rattle.cases.specs.Run.{SameStart};
 use crate::piece::Small;
 use crate::piece::number;
@@ -149,8 +149,11 @@ fn no_cases() -> Tally {
     }
 }
 
-// One case more. A file has fewer cases than bytes, so that no count wraps.
-fn counted(tally: Tally, agrees: bool) -> Tally {
+// One case more: one that differs is not counted among those that agree. A file has fewer cases
+// than bytes, so that no count wraps.
+fn counted(tally: Tally, agrees: bool) -> Tally
+    ensures { λ r. ⌜ (agrees ≡ false → r .agree ≡ tally .agree) ⌝ }
+{
     let cases = wrapping_add_u64(tally.cases, 1);
     let agree = tally.agree;
     let first = tally.first;
