@@ -1,0 +1,73 @@
+-- The message schedule's length and words, and an array that holds its first words.
+use mathlib.Core.Path.{_≡_, refl, sym, ap, _∙_}
+use mathlib.Core.List.{List, [], _∷_, _++_}
+use Prim.Native.Nat.{ℕ, zero, suc, _+_, _-_, _<_, _≤_}
+use native.Mathlib.Nat.{not-suc-le-zero}
+use native.Mathlib.Decide.{decLt}
+use native.Mathlib.Omega.{arith}
+use lib.ListN.{length, getD, set, take, length-append, List·getD-append}
+use lib.Seq.{getD-at, getD-take, getD-set-same, getD-set-other}
+use Rattle.sha256.specs.Words.{_⊞_, σ0, σ1}
+use Rattle.sha256.specs.Sha256.{nextWord, extended, schedule}
+
+pub length-schedule : (n : ℕ) (m : List ℕ) → length (schedule n m) ≡ length m + n
+unfolding schedule extended
+length-schedule zero m = omega arith
+length-schedule (suc n) m = simp (length-append, length-schedule n m) (omega arith)
+
+-- a word hangs on the words before it alone
+next-append : (w u : List ℕ) (t : ℕ) → 16 ≤ t → t ≤ length w → nextWord (w ++ u) t ≡ nextWord w t
+unfolding nextWord
+next-append w u t low high =
+    let at : (k : ℕ) → 0 < k → getD (w ++ u) (t - k) 0 ≡ getD w (t - k) 0 = λ k pos. List·getD-append w u 0 (t - k) (omega arith) in
+    simp (at 2 (omega arith), at 7 (omega arith), at 15 (omega arith), at 16 (omega arith))
+
+-- the first words are the block's
+pub schedule-first : (n : ℕ) (m : List ℕ) (i : ℕ) → i < length m → getD (schedule n m) i 0 ≡ getD m i 0
+unfolding schedule extended
+schedule-first zero m i h = refl
+schedule-first (suc n) m i h = List·getD-append (schedule n m) _ 0 i (rw length-schedule (omega arith)) ∙ schedule-first n m i h
+
+-- each word after the sixteenth is the next of those before it
+pub schedule-next : (n : ℕ) (m : List ℕ) (t : ℕ) → length m ≡ 16 → 16 ≤ t → t < 16 + n → getD (schedule n m) t 0 ≡ nextWord (schedule n m) t
+unfolding schedule extended
+schedule-next zero m t e low high = absurd (omega arith)
+schedule-next (suc n) m t e low high =
+    let w : List ℕ = schedule n m in
+    let l : length w ≡ 16 + n = length-schedule n m ∙ ap (λ (k : ℕ). k + n) e in
+    let v : List ℕ = nextWord w (length w) ∷ [] in
+    elim (decLt t (16 + n)) [
+      | yes lt ↦ List·getD-append w v 0 t (omega arith) ∙ schedule-next n m t e low lt ∙ sym (next-append w v t low (omega arith))
+      | no ge ↦
+          let at-end : t ≡ length w = omega arith in
+          getD-at w (nextWord w (length w)) [] 0 t (sym at-end) ∙ ap (nextWord w) (sym at-end) ∙ sym (next-append w v t low (omega arith))
+    ]
+
+-- the first n words of the array w are the first of the schedule u
+abbrev pub Holds : List ℕ → List ℕ → ℕ → Type 0
+Holds u w n = (i : ℕ) → i < n → i < 64 → getD w i 0 ≡ getD u i 0
+
+-- a store of the word at n
+pub holds-more : (u w : List ℕ) (n v : ℕ) → n < length w → v ≡ getD u n 0 → Holds u w n → Holds u (set w n v) (n + 1)
+holds-more u w n v h e holds i lt fits =
+    elim (decLt i n) [
+      | yes below ↦ getD-set-other w n i v 0 (λ same. omega arith) ∙ holds i below fits
+      | no above ↦
+          let same : i ≡ n = omega arith in
+          ap (λ (k : ℕ). getD (set w n v) k 0) same ∙ getD-set-same w n v 0 h ∙ e ∙ ap (λ (k : ℕ). getD u k 0) (sym same)
+    ]
+
+-- an array that begins with a block's words
+pub holds-first : (n : ℕ) (m w : List ℕ) → length m ≡ 16 → take 16 w ≡ m → Holds (schedule n m) w 16
+holds-first n m w e h i lt fits =
+    sym (getD-take 16 w i 0 lt) ∙ ap (λ (l : List ℕ). getD l i 0) h ∙ sym (schedule-first n m i (omega arith))
+
+-- the word after those that the array holds, as the array's words give it
+pub holds-next : (m w : List ℕ) (t : ℕ) → length m ≡ 16 → t < 48 → Holds (schedule 48 m) w (t + 16)
+    → σ1 (getD w (t + 14) 0) ⊞ getD w (t + 9) 0 ⊞ σ0 (getD w (t + 1) 0) ⊞ getD w t 0 ≡ getD (schedule 48 m) (t + 16) 0
+unfolding nextWord
+holds-next m w t e h holds =
+    let at : (k : ℕ) → 0 < k → k ≤ 16 → (i : ℕ) → i ≡ t + 16 - k → getD w i 0 ≡ getD (schedule 48 m) (t + 16 - k) 0 =
+    λ k pos le i same. holds i (omega arith) (omega arith) ∙ ap (λ (j : ℕ). getD (schedule 48 m) j 0) same in
+    rw (at 2 (omega arith) (omega arith) (t + 14) (omega arith), at 7 (omega arith) (omega arith) (t + 9) (omega arith), at 15 (omega arith) (omega arith) (t + 1) (omega arith), at 16 (omega arith) (omega arith) t (omega arith))
+    (sym (schedule-next 48 m (t + 16) e (omega arith) (omega arith)))

@@ -1,0 +1,8 @@
+pub mod Bytes
+pub mod Words
+pub mod Constants
+pub mod Padding
+pub mod Sha256
+pub mod Examples
+pub mod State
+pub mod Digest

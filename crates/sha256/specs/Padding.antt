@@ -1,0 +1,25 @@
+-- The padding of a message in FIPS 180-4 and its cut into blocks, over bytes.
+use mathlib.Core.List.{List, [], _∷_, _++_}
+use Prim.Native.Nat.{ℕ, _+_, _-_, _*_, _/_, _%_}
+use lib.ListN.{length, take, drop, replicate}
+use Rattle.sha256.specs.Bytes.{tabulate, bytesOf, wordAt}
+
+-- 5.1.1: how many zero bytes follow the byte with the one bit, the fewest that leave 8 bytes of the last block (`fills`, `fewest`)
+unfoldable pub zeroBytes : ℕ → ℕ
+zeroBytes n = (119 - n % 64) % 64
+
+-- 5.1.1: the message, the bit 1 and seven bits 0, zero bytes, and the message's length in bits as 64 bits
+unfoldable pub pad : List ℕ → List ℕ
+pad m = m ++ (0x80 ∷ replicate (zeroBytes (length m)) 0) ++ bytesOf 8 (8 * length m)
+
+-- 5.2.1: the number N of blocks of a padded message
+unfoldable pub blockCount : List ℕ → ℕ
+blockCount p = length p / 64
+
+-- 5.2.1: block i of a padded message, counted from 0
+unfoldable pub block : List ℕ → ℕ → List ℕ
+block p i = take 64 (drop (64 * i) p)
+
+-- 5.2.1: a block as the sixteen words M_0 to M_15
+unfoldable pub wordsOf : List ℕ → List ℕ
+wordsOf m = tabulate 16 (wordAt m)
