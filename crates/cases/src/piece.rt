@@ -48,6 +48,7 @@ pub fn file_buffer() -> [u8; 1048576]
     [0; 1048576]
 }
 
+// The head of the case at `at`; kind 255, which no entry has, if it is not whole there.
 pub fn head_at(file: &[u8], at: usize) -> Head {
     if left(file, at) < HEAD {
         return Head {

@@ -63,7 +63,7 @@ pub fn begin(file: &[u8]) -> Run {
     open(file, 0, no_cases())
 }
 
-// The run after the case that is next in it, whose group is reported if it was the last.
+// The run after its next case went so. The last case of a group has the group reported.
 pub fn after(file: &[u8], run: Run, outcome: Outcome) -> Run {
     let at = run.at;
     let left = run.left;
@@ -76,6 +76,9 @@ pub fn after(file: &[u8], run: Run, outcome: Outcome) -> Run {
     let name = run.name;
     let name_end = run.name_end;
     if 1 < left {
+        if next == file.len() {
+            return malformed(file, next);
+        }
         return Run {
             at: next,
             left: left - 1,
@@ -97,14 +100,14 @@ pub fn after(file: &[u8], run: Run, outcome: Outcome) -> Run {
     open(file, next, total)
 }
 
-// The run at the group that starts at `at`.
+// The run at the group that starts at `at`, which has at least one case.
 fn open(file: &[u8], at: usize, total: Tally) -> Run {
     if file.len() <= at {
         return malformed(file, at);
     }
     let name = at + 1;
     let length = wide(file[at]);
-    if file.len() - name < length + 4 {
+    if file.len() - name <= length + 4 {
         return malformed(file, at);
     }
     let name_end = name + length;
