@@ -1,0 +1,7 @@
+pub mod Modulus
+pub mod Prime
+pub mod Remainders
+pub mod Fields
+pub mod Vectors
+pub mod Rows
+pub mod Sums

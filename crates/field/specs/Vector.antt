@@ -1,0 +1,37 @@
+-- Document 01, "Field and vectors": vectors, and sums over an index.
+use Prim.Native.Nat.{ℕ, zero, suc, _<_}
+use mathlib.Core.Path.{_≡_}
+use mathlib.Core.Bool.{Bool, true, _&&_, cond}
+use mathlib.Core.List.{List, [], _∷_}
+use lib.Dec.{ltb}
+use Rattle.slices.specs.Slices.{_!_, tabulate}
+use Rattle.field.specs.Ops.{Ops}
+
+-- "A vector is held by value in 96 bytes, zero beyond its length."
+unfoldable pub vector : ℕ → (ℕ → ℕ) → List ℕ
+vector n f = tabulate 96 (λ i. cond (ltb i n) (f i) 0)
+
+-- x is a vector of n elements
+pub record IsVector (o : Ops) (n : ℕ) (x : List ℕ) : Type 0 where
+  pub held : x ≡ vector n (λ i. x ! i)
+  pub elements : (i : ℕ) → x ! i < o .size
+
+-- sum, difference and multiple of vectors of n elements
+unfoldable pub addV : Ops → ℕ → List ℕ → List ℕ → List ℕ
+addV o n x y = vector n (λ i. o .add (x ! i) (y ! i))
+
+unfoldable pub subV : Ops → ℕ → List ℕ → List ℕ → List ℕ
+subV o n x y = vector n (λ i. o .sub (x ! i) (y ! i))
+
+unfoldable pub mulV : Ops → ℕ → ℕ → List ℕ → List ℕ
+mulV o n a x = vector n (λ i. o .mul a (x ! i))
+
+-- f 0 + .. + f (n - 1)
+unfoldable pub sum : Ops → ℕ → (ℕ → ℕ) → ℕ
+sum o zero f = 0
+sum o (suc n) f = o .add (sum o n f) (f n)
+
+-- each element of the list is below q
+unfoldable pub allBelow : ℕ → List ℕ → Bool
+allBelow q [] = true
+allBelow q (x ∷ xs) = ltb x q && allBelow q xs

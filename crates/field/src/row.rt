@@ -1,0 +1,101 @@
+// Rows of bytes: whether all are elements, the product of two rows, and a combination of two.
+use crate::scalar::reduce;
+ghost use mathlib.Core.Path.{_≡_};
+ghost use Prim.Native.Nat.{_+_, _*_, _≤_, _<_, max};
+ghost use lib.ListN.{length};
+ghost use Rattle.field.specs.Ops.{ops};
+ghost use Rattle.slices.specs.Slices.{_!_, tabulate};
+ghost use Rattle.field.specs.Vector.{allBelow, sum};
+ghost use Rattle.field.specs.Row.{largest, products};
+
+fn larger(a: u8, b: u8) -> u8
+    ensures { λ r. ⌜ r ≡ max a b ⌝ }
+{
+    if a < b { b } else { a }
+}
+
+// The largest byte, found with no early exit: the check of a whole system spends its time here.
+fn largest_of(s: &[u8]) -> u8
+    ensures { λ r. ⌜ r ≡ largest (now (s .entry)) ⌝ }
+{
+    let mut most: u8 = 0;
+    let mut i = 0;
+    while i < s.len() {
+        most = larger(most, s[i]);
+        i += 1;
+    }
+    most
+}
+
+// Whether every byte is below q.
+pub fn all_below(q: u8, s: &[u8]) -> bool
+    ensures { λ r. ⌜ r ≡ allBelow q (now (s .entry)) ⌝ }
+{
+    if s.len() == 0 {
+        return true;
+    }
+    largest_of(s) < q
+}
+
+fn wide(x: u8) -> u32
+    ensures { λ r. ⌜ (r ≡ x) × (r ≤ 255) ⌝ }
+{
+    x as u32
+}
+
+// The sum of the products of at most 512 pairs, which 32 bits hold.
+fn block<'a>(a: &'a [u8], b: &'a [u8]) -> u32
+    requires { ⌜ (length (now a) ≡ length (now b)) × (length (now a) ≤ 512) ⌝ }
+    ensures { λ r. ⌜ (r ≡ products (now (a .entry)) (now (b .entry)) (length (now (a .entry)))) × (r ≤ 65025 * length (now (a .entry))) ⌝ }
+{
+    let mut total: u32 = 0;
+    let mut i = 0;
+    while i < a.len() {
+        total += wide(a[i]) * wide(b[i]);
+        i += 1;
+    }
+    total
+}
+
+// Where a block that starts at `at` ends.
+fn block_end(at: usize, len: usize) -> usize
+    requires { ⌜ at < len ⌝ }
+    ensures { λ r. ⌜ (at < r) × (r ≤ len) × (r ≤ at + 512) ⌝ }
+{
+    if len - at <= 512 { len } else { at + 512 }
+}
+
+// The sum of the products of a and the front of b, place by place. The running sum has 64 bits, and blocks are summed in
+// 32.
+pub fn dot<'a>(q: u8, a: &'a [u8], b: &'a [u8]) -> u8
+    requires { ⌜ (length (now a) ≤ length (now b)) × (length (now a) ≤ 65536) ⌝ }
+    ensures { λ r. ⌜ r ≡ sum (ops q) (length (now (a .entry))) (λ k. (ops q) .mul (now (a .entry) ! k) (now (b .entry) ! k)) ⌝ }
+{
+    let mut total: u64 = 0;
+    let mut at = 0;
+    while at < a.len() {
+        let end = block_end(at, a.len());
+        total += block(&a[at..end], &b[at..end]) as u64;
+        at = end;
+    }
+    reduce(q, total as u32)
+}
+
+// a·x + b·y, with one division.
+fn blend(q: u8, a: u8, x: u8, b: u8, y: u8) -> u8
+    ensures { λ r. ⌜ r ≡ (ops q) .add ((ops q) .mul a x) ((ops q) .mul b y) ⌝ }
+{
+    reduce(q, a as u32 * x as u32 + b as u32 * y as u32)
+}
+
+// Fills out with a·x + b·y, place by place.
+pub fn combine<'a>(q: u8, a: u8, x: &'a [u8], b: u8, y: &'a [u8], out: &mut [u8])
+    requires { ⌜ (length (now out) ≤ length (now x)) × (length (now out) ≤ length (now y)) ⌝ }
+    ensures { λ _. ⌜ now (out .exit) ≡ tabulate (length (now (out .entry))) (λ i. (ops q) .add ((ops q) .mul a (now (x .entry) ! i)) ((ops q) .mul b (now (y .entry) ! i))) ⌝ }
+{
+    let mut i = 0;
+    while i < out.len() {
+        out[i] = blend(q, a, x[i], b, y[i]);
+        i += 1;
+    }
+}

@@ -1,0 +1,17 @@
+-- Refusals as numbers, 0 for none, in document 01's order: the first that applies is the answer.
+use Prim.Native.Nat.{ℕ}
+use mathlib.Core.Bool.{Bool, cond}
+use lib.Dec.{eqb}
+
+infixr 20 _orElse_
+-- the number k where the test fails
+unfoldable pub unless : Bool → ℕ → ℕ
+unless test k = cond test 0 k
+
+-- the first of two that is no 0
+unfoldable pub _orElse_ : ℕ → ℕ → ℕ
+first orElse later = cond (eqb first 0) later first
+
+-- what is refused stays as it was
+unfoldable pub kept : {A : Type 0} → ℕ → A → A → A
+kept refusal old new = cond (eqb refusal 0) new old

@@ -1,0 +1,36 @@
+-- Parts of a list, from s up to e: what stands in them, how long they are, and a list with a part of it replaced. Assumes nothing.
+use Prim.Native.Nat.{ℕ, _+_, _-_, _≤_, _<_}
+use mathlib.Core.Path.{_≡_, sym, ap, _∙_}
+use mathlib.Core.List.{List, _++_, append-nil}
+use native.Mathlib.Omega.{arith}
+use lib.ListN.{length, take, drop, length-drop, List·getD-append}
+use lib.Seq.{length-take-le, take-all, take-length, drop-length, getD-take, getD-drop, getD-append-add}
+use borrow.Rule.Slice.PartMut.{putMid, postOf}
+use Rattle.slices.specs.Slices.{_!_}
+
+pub part-at : (a : List ℕ) (s e i : ℕ) → i < e - s → take (e - s) (drop s a) ! i ≡ a ! (s + i)
+part-at a s e i h = getD-take (e - s) (drop s a) i 0 h ∙ getD-drop s a i 0
+
+pub length-part : (a : List ℕ) (s e : ℕ) → s ≤ e → e ≤ length a → length (take (e - s) (drop s a)) ≡ e - s
+length-part a s e h k = length-take-le (e - s) (drop s a) (simp length-drop (omega arith))
+
+-- ---- a list with a part of it replaced
+
+pub put-before : (a k : ℕ) (xs ys : List ℕ) (i : ℕ) → a ≤ length xs → i < a → putMid a k xs ys ! i ≡ xs ! i
+put-before a k xs ys i within h =
+    List·getD-append (take a xs) (ys ++ postOf a k xs) 0 i (rw (length-take-le a xs within) h) ∙ getD-take a xs i 0 h
+
+pub put-inside : (a k : ℕ) (xs ys : List ℕ) (i : ℕ) → a ≤ length xs → i < length ys → putMid a k xs ys ! (a + i) ≡ ys ! i
+put-inside a k xs ys i within h =
+    ap (λ (n : ℕ). putMid a k xs ys ! (n + i)) (sym (length-take-le a xs within)) ∙
+    getD-append-add (take a xs) (ys ++ postOf a k xs) i 0 ∙
+    List·getD-append ys (postOf a k xs) 0 i h
+
+-- the front of what was copied over
+pub copied-at : (src dst l : List ℕ) (k i : ℕ) → k ≡ length src → l ≡ take k src ++ drop k dst → i < length src → l ! i ≡ src ! i
+copied-at src dst l k i e copied h =
+    ap (λ (s : List ℕ). s ! i) (copied ∙ ap (λ (s : List ℕ). s ++ drop k dst) (take-all k src (omega arith))) ∙ List·getD-append src (drop k dst) 0 i h
+
+-- a whole list is copied over
+pub copied-whole : (src dst l : List ℕ) → length src ≡ length dst → l ≡ take (length src) src ++ drop (length src) dst → l ≡ src
+copied-whole src dst l same copied = copied ∙ rw (take-length, same, drop-length, append-nil)

@@ -1,0 +1,14 @@
+-- Lists of numbers read by place.
+use Prim.Native.Nat.{ℕ, zero, suc}
+use mathlib.Core.List.{List, [], _∷_}
+use lib.ListN.{getD}
+
+infixl 90 _!_
+-- what stands at place i of a list, from 0; 0 beyond its end
+abbrev pub _!_ : List ℕ → ℕ → ℕ
+x ! i = getD x i 0
+
+-- f 0, .., f (n - 1)
+unfoldable pub tabulate : ℕ → (ℕ → ℕ) → List ℕ
+tabulate zero f = []
+tabulate (suc n) f = f 0 ∷ tabulate n (λ i. f (suc i))

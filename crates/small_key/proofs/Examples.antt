@@ -1,0 +1,12 @@
+-- The worked examples hold: antt computes each. Assumes nothing.
+use mathlib.Core.Path.{refl}
+use Rattle.slices.specs.Slices.{tabulate}
+use Rattle.field.specs.Ops.{isField, modulus, remainders, ops}
+use Rattle.field.specs.Vector.{vector, addV, subV, sum}
+use Rattle.system.specs.Polynomial.{pairs, polynomial}
+use Rattle.system.specs.System.{width, triangle, quadratic, linear, F, G}
+use Rattle.small_key.specs.SmallKey.{SmallKey, _gives_}
+
+pub small-key : SmallKey
+unfolding _gives_ F G quadratic linear width triangle polynomial pairs sum vector addV subV tabulate ops remainders modulus isField
+small-key = record { K1 = refl; K2 = refl; K3 = refl; K4 = refl; K10 = refl; K11 = refl; K12 = refl }

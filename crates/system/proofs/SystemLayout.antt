@@ -1,0 +1,153 @@
+-- Laws of a system's layout: widths, where a row of coefficients starts, and what a system that is not refused is. Assumes nothing.
+use Prim.Native.Nat.{ℕ, zero, suc, _+_, _-_, _*_, _/_, _≤_, _<_}
+use mathlib.Core.Path.{_≡_, refl, sym, ap, subst, _∙_}
+use mathlib.Core.Bool.{Bool, true, false, false≢true, _&&_}
+use mathlib.Core.List.{List, [], _∷_}
+use native.Mathlib.Nat.{mul-le-mul, mul-le-mul-right, le-trans, le-refl, not-suc-le-zero, eq-or-lt-of-le, le-of-suc-le-suc}
+use mathlib.Core.Logic.{⊎-elim}
+use native.Mathlib.Decide.{decLe}
+use native.Mathlib.Omega.{arith}
+use lib.Dec.{leb, ltb, eqb}
+use lib.ListN.{length, drop, length-drop}
+use borrow.Author.Tests.{leb-true, eqb-true, ltb-true, le-leb, eq-eqb, lt-ltb}
+use Rattle.slices.specs.Slices.{_!_}
+use Rattle.refusal.specs.Refusal.{unless, _orElse_}
+use Rattle.refusal.proofs.Refusals.{first-zero, later-zero, test-holds}
+use Rattle.field.specs.Ops.{isField}
+use Rattle.field.specs.Vector.{allBelow}
+use Rattle.system.specs.System.{qOf, nOf, mOf, width, systemLength, isSize, areSizes, systemRefusal, WellFormedSystem, triangle}
+
+-- ---- widths
+
+pub product-bound : (n k : ℕ) → n ≤ k → n * (n + 1) ≤ k * (k + 1)
+product-bound n k h = mul-le-mul h (omega arith)
+
+pub width-bound : (n k : ℕ) → n ≤ k → width n ≤ width k
+unfolding width
+width-bound n k h = omega (arith, product-bound n k h)
+
+-- ---- the triangle of quadratic coefficients
+
+twice-triangle : (n i : ℕ) → i ≤ n → 2 * triangle n i + i * i ≡ 2 * (n * i) + i
+unfolding triangle
+twice-triangle n zero h = omega arith
+twice-triangle n (suc i) h = omega (arith, twice-triangle n i (omega arith))
+
+pub triangle-whole : (n : ℕ) → triangle n n ≡ n * (n + 1) / 2
+triangle-whole n = omega (arith, twice-triangle n n (le-refl n))
+
+pub width-is : (n : ℕ) → width n ≡ triangle n n + n
+unfolding width
+width-is n = ap (λ (k : ℕ). k + n) (sym (triangle-whole n))
+
+pub triangle-bound : (n : ℕ) → n ≤ 96 → triangle n n ≤ 4656
+triangle-bound n h = omega (arith, triangle-whole n, product-bound n 96 h)
+
+-- the row of i ends where the next starts, and that is at most where a later one does
+pub triangle-next : (n i j : ℕ) → i < j → triangle n i + (n - i) ≤ triangle n j
+unfolding triangle
+triangle-next n i zero h = absurd (not-suc-le-zero h)
+triangle-next n i (suc j) h =
+    ⊎-elim (λ (e : i ≡ j). rw e (le-refl _)) (λ (l : i < j). omega (arith, triangle-next n i j l)) (eq-or-lt-of-le (le-of-suc-le-suc h))
+
+-- ---- what decides a refusal
+
+pub refusal-by : (b : List ℕ) (front sizes whole elements : Bool) →
+    leb 3 (length b) ≡ front → areSizes (qOf b) (nOf b) (mOf b) ≡ sizes → eqb (length b) (systemLength (nOf b) (mOf b)) ≡ whole →
+    allBelow (qOf b) (drop 3 b) ≡ elements →
+    (unless front 2 orElse unless sizes 1 orElse unless whole 2 orElse unless elements 3) ≡ systemRefusal b
+unfolding systemRefusal
+refusal-by b front sizes whole elements e f g h = rw (e, f, g, h)
+
+-- ---- a system that is not refused
+
+and-left : (a b : Bool) → (a && b) ≡ true → a ≡ true
+and-left true b e = refl
+and-left false b e = e
+
+and-right : (a b : Bool) → (a && b) ≡ true → b ≡ true
+and-right true b e = e
+and-right false b e = absurd (false≢true e)
+
+pub record Accepted (b : List ℕ) : Type 0 where
+  pub front : 3 ≤ length b
+  pub is-field : isField (qOf b) ≡ true
+  pub n-low : 1 ≤ nOf b
+  pub n-high : nOf b ≤ 96
+  pub m-low : 1 ≤ mOf b
+  pub m-high : mOf b ≤ 96
+  pub whole : length b ≡ 3 + mOf b * width (nOf b)
+  pub elements : allBelow (qOf b) (drop 3 b) ≡ true
+
+pub accepted : (b : List ℕ) → systemRefusal b ≡ 0 → Accepted b
+unfolding systemRefusal systemLength areSizes isSize
+accepted b h =
+    let sizes = test-holds (areSizes (qOf b) (nOf b) (mOf b)) 1 tt (first-zero _ _ (later-zero _ _ h)) in
+    let n-and-m = and-right (isField (qOf b)) (isSize (nOf b) && isSize (mOf b)) sizes in
+    let n-size = and-left (isSize (nOf b)) (isSize (mOf b)) n-and-m in
+    let m-size = and-right (isSize (nOf b)) (isSize (mOf b)) n-and-m in
+    record {
+      front = leb-true 3 (length b) (test-holds (leb 3 (length b)) 2 tt (first-zero _ _ h));
+      is-field = and-left (isField (qOf b)) (isSize (nOf b) && isSize (mOf b)) sizes;
+      n-low = leb-true 1 (nOf b) (and-left (leb 1 (nOf b)) (leb (nOf b) 96) n-size);
+      n-high = leb-true (nOf b) 96 (and-right (leb 1 (nOf b)) (leb (nOf b) 96) n-size);
+      m-low = leb-true 1 (mOf b) (and-left (leb 1 (mOf b)) (leb (mOf b) 96) m-size);
+      m-high = leb-true (mOf b) 96 (and-right (leb 1 (mOf b)) (leb (mOf b) 96) m-size);
+      whole = eqb-true (length b) (systemLength (nOf b) (mOf b)) (test-holds _ 2 tt (first-zero _ _ (later-zero _ _ (later-zero _ _ h))));
+      elements = test-holds (allBelow (qOf b) (drop 3 b)) 3 tt (later-zero _ _ (later-zero _ _ (later-zero _ _ h)));
+    }
+
+-- ---- not refused is well-formed
+
+all-below-at : (q : ℕ) (s : List ℕ) → allBelow q s ≡ true → (i : ℕ) → i < length s → s ! i < q
+unfolding allBelow
+all-below-at q [] e i h = absurd (not-suc-le-zero h)
+all-below-at q (x ∷ s) e zero h = ltb-true x q (and-left (ltb x q) (allBelow q s) e)
+all-below-at q (x ∷ s) e (suc i) h = all-below-at q s (and-right (ltb x q) (allBelow q s) e) i (le-of-suc-le-suc h)
+
+at-all-below : (q : ℕ) (s : List ℕ) → ((i : ℕ) → i < length s → s ! i < q) → allBelow q s ≡ true
+unfolding allBelow
+at-all-below q [] each = refl
+at-all-below q (x ∷ s) each =
+    rw (lt-ltb x q (each 0 (omega arith)), at-all-below q s (λ i h. each (suc i) (omega arith)))
+
+pub well-formed : (b : List ℕ) → systemRefusal b ≡ 0 → WellFormedSystem b
+well-formed b h =
+    let k = accepted b h in
+    record {
+      q = qOf b;
+      n = nOf b;
+      m = mOf b;
+      coefficients = drop 3 b;
+      laid-out = three b (k .front);
+      is-field = k .is-field;
+      n-size = (k .n-low, k .n-high);
+      m-size = (k .m-low, k .m-high);
+      count = length-drop 3 b ∙ omega arith;
+      elements = all-below-at (qOf b) (drop 3 b) (k .elements);
+    }
+  where
+    three : (l : List ℕ) → 3 ≤ length l → l ≡ l ! 0 ∷ l ! 1 ∷ l ! 2 ∷ drop 3 l
+    three [] h = absurd (omega arith)
+    three (x ∷ []) h = absurd (omega arith)
+    three (x ∷ y ∷ []) h = absurd (omega arith)
+    three (x ∷ y ∷ z ∷ l) h = refl
+
+size-true : (k : ℕ) → (1 ≤ k) × (k ≤ 96) → isSize k ≡ true
+unfolding isSize
+size-true k h = rw (le-leb 1 k (h .0), le-leb k 96 (h .1))
+
+sizes-true : (q n m : ℕ) → isField q ≡ true → (1 ≤ n) × (n ≤ 96) → (1 ≤ m) × (m ≤ 96) → areSizes q n m ≡ true
+unfolding areSizes
+sizes-true q n m e hn hm = rw (e, size-true n hn, size-true m hm)
+
+pub not-refused : (b : List ℕ) → WellFormedSystem b → systemRefusal b ≡ 0
+unfolding unless _orElse_ systemLength
+not-refused b w =
+    rw (w .laid-out)
+    (sym
+    (refusal-by (w .q ∷ w .n ∷ w .m ∷ w .coefficients) true true true true
+    (le-leb 3 (suc (suc (suc (length (w .coefficients))))) (omega arith))
+    (sizes-true (w .q) (w .n) (w .m) (w .is-field) (w .n-size) (w .m-size))
+    (eq-eqb (suc (suc (suc (length (w .coefficients))))) (3 + w .m * width (w .n)) (omega (arith, w .count)))
+    (at-all-below (w .q) (w .coefficients) (w .elements))))

@@ -1,0 +1,55 @@
+// The layout of a system's bytes and what is refused of them.
+use field::all_below;
+use field::is_field;
+ghost use mathlib.Core.Path.{_≡_};
+ghost use Rattle.system.specs.System.{width as widthOf, systemLength, isSize, areSizes, systemRefusal};
+
+// The bytes of one polynomial in n unknowns.
+pub fn width(n: u8) -> usize
+    ensures { λ r. ⌜ r ≡ widthOf n ⌝ }
+{
+    n as usize * (n as usize + 1) / 2 + n as usize
+}
+
+// The bytes of a system of m polynomials in n unknowns.
+pub fn system_length(n: u8, m: u8) -> usize
+    ensures { λ r. ⌜ r ≡ systemLength n m ⌝ }
+{
+    3 + m as usize * width(n)
+}
+
+// Whether k is a number of unknowns or of polynomials.
+fn is_size(k: u8) -> bool
+    ensures { λ r. ⌜ r ≡ isSize k ⌝ }
+{
+    if 1 <= k { k <= 96 } else { false }
+}
+
+fn are_sizes(q: u8, n: u8, m: u8) -> bool
+    ensures { λ r. ⌜ r ≡ areSizes q n m ⌝ }
+{
+    if is_field(q) {
+        if is_size(n) { is_size(m) } else { false }
+    } else {
+        false
+    }
+}
+
+// Refuses a system's bytes: 0 where they are well-formed.
+pub fn check(system: &[u8]) -> u8
+    ensures { λ r. ⌜ r ≡ systemRefusal (now (system .entry)) ⌝ }
+{
+    if system.len() < 3 {
+        return 2;
+    }
+    if !are_sizes(system[0], system[1], system[2]) {
+        return 1;
+    }
+    if system.len() != system_length(system[1], system[2]) {
+        return 2;
+    }
+    if !all_below(system[0], &system[3..]) {
+        return 3;
+    }
+    0
+}
