@@ -1,7 +1,7 @@
 -- One round more of a block's hash, and one block more of a message's.
 use mathlib.Core.Path.{_≡_, sym, ap, _∙_}
 use mathlib.Core.List.{List}
-use Prim.Native.Nat.{ℕ, suc, _+_}
+use Prim.Native.Nat.{ℕ, _+_}
 use native.Mathlib.Numerals.{add-one}
 use lib.ListN.{getD}
 use Rattle.sha256.specs.Words.{Variables}

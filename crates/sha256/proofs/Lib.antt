@@ -1,6 +1,6 @@
--- The laws that several functions' proofs share, and what other crates cite of a digest.
+-- The laws that several functions' proofs share. `DigestBytes` has what other crates cite of a digest.
 pub mod Tabulate
-pub mod PaddedMessage
-pub mod MessageSchedule
-pub mod HashValue
+mod PaddedMessage
+mod MessageSchedule
+mod HashValue
 pub mod DigestBytes

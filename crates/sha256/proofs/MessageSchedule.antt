@@ -2,12 +2,10 @@
 use mathlib.Core.Path.{_≡_, refl, sym, ap, _∙_}
 use mathlib.Core.List.{List, [], _∷_, _++_}
 use Prim.Native.Nat.{ℕ, zero, suc, _+_, _-_, _<_, _≤_}
-use native.Mathlib.Nat.{not-suc-le-zero}
 use native.Mathlib.Decide.{decLt}
 use native.Mathlib.Omega.{arith}
 use lib.ListN.{length, getD, set, take, length-append, List·getD-append}
 use lib.Seq.{getD-at, getD-take, getD-set-same, getD-set-other}
-use Rattle.sha256.specs.Words.{_⊞_, σ0, σ1}
 use Rattle.sha256.specs.Sha256.{nextWord, extended, schedule}
 
 pub length-schedule : (n : ℕ) (m : List ℕ) → length (schedule n m) ≡ length m + n
@@ -16,11 +14,14 @@ length-schedule zero m = omega arith
 length-schedule (suc n) m = simp (length-append, length-schedule n m) (omega arith)
 
 -- a word hangs on the words before it alone
-next-append : (w u : List ℕ) (t : ℕ) → 16 ≤ t → t ≤ length w → nextWord (w ++ u) t ≡ nextWord w t
+next-same : (w u : List ℕ) (t : ℕ) → 16 ≤ t → ((i : ℕ) → i < t → getD w i 0 ≡ getD u i 0) → nextWord w t ≡ nextWord u t
 unfolding nextWord
-next-append w u t low high =
-    let at : (k : ℕ) → 0 < k → getD (w ++ u) (t - k) 0 ≡ getD w (t - k) 0 = λ k pos. List·getD-append w u 0 (t - k) (omega arith) in
+next-same w u t low same =
+    let at : (k : ℕ) → 0 < k → getD w (t - k) 0 ≡ getD u (t - k) 0 = λ k pos. same (t - k) (omega arith) in
     simp (at 2 (omega arith), at 7 (omega arith), at 15 (omega arith), at 16 (omega arith))
+
+next-append : (w u : List ℕ) (t : ℕ) → 16 ≤ t → t ≤ length w → nextWord (w ++ u) t ≡ nextWord w t
+next-append w u t low high = next-same (w ++ u) w t low (λ i h. List·getD-append w u 0 i (omega arith))
 
 -- the first words are the block's
 pub schedule-first : (n : ℕ) (m : List ℕ) (i : ℕ) → i < length m → getD (schedule n m) i 0 ≡ getD m i 0
@@ -48,7 +49,7 @@ abbrev pub Holds : List ℕ → List ℕ → ℕ → Type 0
 Holds u w n = (i : ℕ) → i < n → i < 64 → getD w i 0 ≡ getD u i 0
 
 -- a store of the word at n
-pub holds-more : (u w : List ℕ) (n v : ℕ) → n < length w → v ≡ getD u n 0 → Holds u w n → Holds u (set w n v) (n + 1)
+holds-more : (u w : List ℕ) (n v : ℕ) → n < length w → v ≡ getD u n 0 → Holds u w n → Holds u (set w n v) (n + 1)
 holds-more u w n v h e holds i lt fits =
     elim (decLt i n) [
       | yes below ↦ getD-set-other w n i v 0 (λ same. omega arith) ∙ holds i below fits
@@ -62,12 +63,16 @@ pub holds-first : (n : ℕ) (m w : List ℕ) → length m ≡ 16 → take 16 w �
 holds-first n m w e h i lt fits =
     sym (getD-take 16 w i 0 lt) ∙ ap (λ (l : List ℕ). getD l i 0) h ∙ sym (schedule-first n m i (omega arith))
 
--- the word after those that the array holds, as the array's words give it
-pub holds-next : (m w : List ℕ) (t : ℕ) → length m ≡ 16 → t < 48 → Holds (schedule 48 m) w (t + 16)
-    → σ1 (getD w (t + 14) 0) ⊞ getD w (t + 9) 0 ⊞ σ0 (getD w (t + 1) 0) ⊞ getD w t 0 ≡ getD (schedule 48 m) (t + 16) 0
-unfolding nextWord
-holds-next m w t e h holds =
-    let at : (k : ℕ) → 0 < k → k ≤ 16 → (i : ℕ) → i ≡ t + 16 - k → getD w i 0 ≡ getD (schedule 48 m) (t + 16 - k) 0 =
-    λ k pos le i same. holds i (omega arith) (omega arith) ∙ ap (λ (j : ℕ). getD (schedule 48 m) j 0) same in
-    rw (at 2 (omega arith) (omega arith) (t + 14) (omega arith), at 7 (omega arith) (omega arith) (t + 9) (omega arith), at 15 (omega arith) (omega arith) (t + 1) (omega arith), at 16 (omega arith) (omega arith) t (omega arith))
-    (sym (schedule-next 48 m (t + 16) e (omega arith) (omega arith)))
+-- a turn that stores the next word
+pub holds-step : (m w : List ℕ) (t v : ℕ) → length m ≡ 16 → length w ≡ 64 → t < 48 → Holds (schedule 48 m) w (t + 16)
+    → v ≡ nextWord w (t + 16) → Holds (schedule 48 m) (set w (t + 16) v) (t + 1 + 16)
+holds-step m w t v e l h holds ev =
+    let u = schedule 48 m in
+    let next : t + 1 + 16 ≡ t + 16 + 1 = omega arith in
+    let same : nextWord w (t + 16) ≡ nextWord u (t + 16) = next-same w u (t + 16) (omega arith) (λ i lt. holds i lt (omega arith)) in
+    let word : getD u (t + 16) 0 ≡ nextWord u (t + 16) = schedule-next 48 m (t + 16) e (omega arith) (omega arith) in
+    rw next (holds-more u w (t + 16) v (omega arith) (ev ∙ same ∙ sym word) holds)
+
+-- a turn after the last word is stored
+pub holds-all : (u w : List ℕ) (t : ℕ) → 48 ≤ t → Holds u w (t + 16) → Holds u w (t + 1 + 16)
+holds-all u w t h holds i lt fits = holds i (omega arith) fits

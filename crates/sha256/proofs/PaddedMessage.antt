@@ -1,7 +1,7 @@
 -- The padded message: its length, its bytes, and its blocks.
-use mathlib.Core.Path.{_≡_, refl, sym, ap, _∙_}
-use mathlib.Core.List.{List, [], _∷_, _++_}
-use Prim.Native.Nat.{ℕ, zero, suc, _+_, _-_, _*_, _/_, _%_, _<_, _≤_}
+use mathlib.Core.Path.{_≡_, sym, ap, _∙_}
+use mathlib.Core.List.{List, _∷_, _++_}
+use Prim.Native.Nat.{ℕ, suc, _+_, _-_, _*_, _/_, _%_, _<_, _≤_}
 use native.Mathlib.Omega.{arith}
 use lib.ListN.{length, getD, take, drop, replicate, length-append, length-replicate, getD-replicate, length-drop, List·getD-append}
 use lib.Seq.{getD-append-add, getD-at, getD-take, getD-drop, take-append-le, drop-append-le, length-take-le}
@@ -9,13 +9,13 @@ use Rattle.sha256.specs.Bytes.{byteOf, bytesOf}
 use Rattle.sha256.specs.Padding.{zeroBytes, pad, blockCount, block}
 use Rattle.sha256.proofs.Tabulate.{length-bytesOf, getD-bytesOf}
 
--- the zero bytes leave the last eight of a block
-pub fills : (n : ℕ) → (n + 1 + zeroBytes n) % 64 ≡ 56
+-- 5.1.1 of FIPS 180-4: k = 7 + 8 zeroBytes is a solution of l + 1 + k = 448 modulo 512 for a message of l = 8n bits
+fills : (n : ℕ) → (8 * n + 1 + (7 + 8 * zeroBytes n)) % 512 ≡ 448
 unfolding zeroBytes
 fills n = omega arith
 
--- no fewer zero bytes do
-pub fewest : (n k : ℕ) → (n + 1 + k) % 64 ≡ 56 → zeroBytes n ≤ k
+-- and the smallest
+fewest : (n k : ℕ) → (8 * n + 1 + k) % 512 ≡ 448 → 7 + 8 * zeroBytes n ≤ k
 unfolding zeroBytes
 fewest n k h = omega arith
 

@@ -1,12 +1,12 @@
 -- Lists given by a rule for each place: their length, their elements, and a loop that fills an array with one.
 use mathlib.Core.Path.{_≡_, refl, sym, ap, _∙_}
-use mathlib.Core.List.{List, [], _∷_, _++_}
+use mathlib.Core.List.{List, [], _∷_}
 use Prim.Native.Nat.{ℕ, zero, suc, _+_, _<_, _≤_}
 use native.Mathlib.Nat.{not-suc-le-zero}
 use native.Mathlib.Numerals.{add-one}
 use native.Mathlib.Decide.{decLt}
 use native.Mathlib.Omega.{arith}
-use lib.ListN.{length, getD, set, take, length-append, List·getD-append}
+use lib.ListN.{length, getD, set, take, length-append, length-set, List·getD-append}
 use lib.Seq.{take-suc-set, take-all, ext-getD, getD-at}
 use Rattle.sha256.specs.Bytes.{tabulate, byteOf, bytesOf}
 
@@ -41,13 +41,19 @@ pub getD-bytesOf : (k n j : ℕ) → j < k → getD (bytesOf k n) j 0 ≡ byteOf
 unfolding bytesOf
 getD-bytesOf k n j h = getD-tabulate k (byteOf k n) j h
 
--- a store at i of what the rule gives there fills one place more
-pub fill-more : (l : List ℕ) (f : ℕ → ℕ) (i v : ℕ) → i < length l → take i l ≡ tabulate i f → v ≡ f i → take (i + 1) (set l i v) ≡ tabulate (i + 1) f
+-- an array l of k places, of which a loop fills the first n by the rule f, has its first i filled
+abbrev pub Filled : (ℕ → ℕ) → ℕ → ℕ → List ℕ → ℕ → Type 0
+Filled f n k l i = (i ≤ n) × (length l ≡ k) × (take i l ≡ tabulate i f)
+
+-- a store at i of what the rule gives there
+pub fill-more : (f : ℕ → ℕ) (n k : ℕ) (l : List ℕ) (i v : ℕ) → n ≤ k → i < n → Filled f n k l i → v ≡ f i → Filled f n k (set l i v) (i + 1)
 unfolding tabulate
-fill-more l f i v h e ev = rw (add-one, take-suc-set) (simp (e, ev))
+fill-more f n k l i v room h (le, len, e) ev =
+    let below : i < length l = omega arith in
+    (omega arith, length-set l i v ∙ len, rw (add-one, take-suc-set) (simp (e, ev)))
 
 -- an array that is filled to its end is the list
-pub filled : (l : List ℕ) (n i : ℕ) (f : ℕ → ℕ) → length l ≡ n → n ≤ i → i ≤ n → take i l ≡ tabulate i f → l ≡ tabulate n f
-filled l n i f e low high h =
+pub filled : (f : ℕ → ℕ) (n : ℕ) (l : List ℕ) (i : ℕ) → n ≤ i → Filled f n n l i → l ≡ tabulate n f
+filled f n l i past (le, len, e) =
     let at-end : i ≡ n = omega arith in
-    sym (take-all i l (omega arith)) ∙ h ∙ ap (λ (k : ℕ). tabulate k f) at-end
+    sym (take-all i l (omega arith)) ∙ e ∙ ap (λ (k : ℕ). tabulate k f) at-end

@@ -1,10 +1,11 @@
 -- The padding of a message in FIPS 180-4 and its cut into blocks, over bytes.
-use mathlib.Core.List.{List, [], _∷_, _++_}
-use Prim.Native.Nat.{ℕ, _+_, _-_, _*_, _/_, _%_}
+use mathlib.Core.List.{List, _∷_, _++_}
+use Prim.Native.Nat.{ℕ, _-_, _*_, _/_, _%_}
 use lib.ListN.{length, take, drop, replicate}
 use Rattle.sha256.specs.Bytes.{tabulate, bytesOf, wordAt}
 
--- 5.1.1: how many zero bytes follow the byte with the one bit, the fewest that leave 8 bytes of the last block (`fills`, `fewest`)
+-- 5.1.1: the zero bytes that follow the one bit and seven zero bits; k is 7 + 8 zeroBytes, the smallest solution (`fills` and `fewest`
+-- of proofs/PaddedMessage.antt)
 unfoldable pub zeroBytes : ℕ → ℕ
 zeroBytes n = (119 - n % 64) % 64
 

@@ -1,7 +1,7 @@
 -- SHA-256 as FIPS 180-4 (August 2015) defines it, as a function of a message's bytes. Each definition names the section that it renders.
 -- It is defined for messages of any length, where FIPS 180-4 stops at 2^64 - 1 bits.
 use mathlib.Core.List.{List, [], _∷_, _++_}
-use Prim.Native.Nat.{ℕ, zero, suc, _+_, _-_, _*_}
+use Prim.Native.Nat.{ℕ, zero, suc, _-_}
 use lib.ListN.{length, getD}
 use Rattle.sha256.specs.Bytes.{bytesOf}
 use Rattle.sha256.specs.Words.{_⊞_, Ch, Maj, Σ0, Σ1, σ0, σ1, Variables}

@@ -1,11 +1,10 @@
 // The hash of one block: FIPS 180-4, 6.2.2.
 ghost use mathlib.Core.Path.{_≡_};
-ghost use Prim.Native.Nat.{_+_, _*_, _<_};
+ghost use Prim.Native.Nat.{_+_, _*_, _≤_, _<_};
 ghost use lib.ListN.{length, take};
 ghost use Rattle.sha256.specs.Bytes.{wordAt};
-ghost use Rattle.sha256.specs.Words.{_⊞_, σ0, σ1};
 ghost use Rattle.sha256.specs.Padding.{wordsOf};
-ghost use Rattle.sha256.specs.Sha256.{T1, T2, round, added, compress};
+ghost use Rattle.sha256.specs.Sha256.{nextWord, T1, T2, round, added, compress};
 ghost use Rattle.sha256.specs.State.{variables};
 use crate::constants::constants;
 use crate::state::State;
@@ -17,6 +16,7 @@ use crate::word::majority;
 use crate::word::upper_sigma0;
 use crate::word::upper_sigma1;
 
+// A byte as a word.
 fn wide(x: u8) -> u32
     ensures { λ r. ⌜ (r ≡ x) × (r < 256) ⌝ }
 {
@@ -50,13 +50,21 @@ fn load(block: &[u8]) -> [u32; 64]
     w
 }
 
-// A word of the message schedule of those 2, 7, 15 and 16 places before it.
-fn scheduled(w2: u32, w7: u32, w15: u32, w16: u32) -> u32
-    ensures { λ r. ⌜ r ≡ σ1 w2 ⊞ w7 ⊞ σ0 w15 ⊞ w16 ⌝ }
+// Word t of the message schedule, of the words before it.
+fn next_word(w: &[u32; 64], t: usize) -> u32
+    requires { ⌜ (16 ≤ t) × (t < 64) ⌝ }
+    ensures { λ r. ⌜ r ≡ nextWord (now (w .entry)) t ⌝ }
 {
-    add(add(add(lower_sigma1(w2), w7), lower_sigma0(w15)), w16)
+    add(
+        add(
+            add(lower_sigma1(w[t - 2]), w[t - 7]),
+            lower_sigma0(w[t - 15]),
+        ),
+        w[t - 16],
+    )
 }
 
+// The word T1 of a round, with its constant and its word of the message schedule.
 fn first_sum(s: State, k: u32, w: u32) -> u32
     ensures { λ r. ⌜ r ≡ T1 k w (variables s) ⌝ }
 {
@@ -66,6 +74,7 @@ fn first_sum(s: State, k: u32, w: u32) -> u32
     )
 }
 
+// The word T2 of a round.
 fn second_sum(s: State) -> u32
     ensures { λ r. ⌜ r ≡ T2 (variables s) ⌝ }
 {
@@ -73,7 +82,7 @@ fn second_sum(s: State) -> u32
 }
 
 // One round, with its constant and its word of the message schedule.
-fn turn(s: State, k: u32, w: u32) -> State
+fn round(s: State, k: u32, w: u32) -> State
     ensures { λ r. ⌜ variables r ≡ round k w (variables s) ⌝ }
 {
     let t1 = first_sum(s, k, w);
@@ -116,9 +125,10 @@ pub fn hash_block(value: State, block: &[u8]) -> State
     let mut s = value;
     let mut t = 0;
     while t < 64 {
-        s = turn(s, k[t], w[t]);
+        s = round(s, k[t], w[t]);
         if t < 48 {
-            w[t + 16] = scheduled(w[t + 14], w[t + 9], w[t + 1], w[t]);
+            let next = t + 16;
+            w[next] = next_word(&w, next);
         }
         t += 1;
     }

@@ -85,7 +85,8 @@ pub fn hash(message: &[u8]) -> [u8; 32]
 // Writes the digest of a message to out and returns 0; or returns 2 and leaves out as it was, where the message is longer than
 // 65,535 bytes or out is not 32 bytes long.
 pub fn digest(message: &[u8], out: &mut [u8]) -> u8
-    ensures { λ r. ⌜ (r ≡ refusal (length (now (message .entry))) (length (now (out .entry)))) × (now (out .exit) ≡ digestOut (now (message .entry)) (now (out .entry))) ⌝ }
+    ensures { λ r. ⌜ (r ≡ refusal (length (now (message .entry))) (length (now (out .entry))))
+        × (now (out .exit) ≡ digestOut (now (message .entry)) (now (out .entry))) ⌝ }
 {
     if message.len() > 65535 {
         return 2;

@@ -1,35 +1,37 @@
 -- `digest` meets its contract: each test that refuses is one of the specification's. The loop's invariant: the first i bytes of the
 -- output are the digest's.
 use mathlib.Core.Path.{_≡_, refl, ap, _∙_}
-use Prim.Native.Nat.{ℕ, _≤_, _-_}
+use Prim.Native.Nat.{_-_}
 use native.Mathlib.Omega.{arith}
-use lib.ListN.{length, getD, take, length-set}
+use lib.ListN.{length, getD}
 use borrow.Author.Needs.{needs}
 use borrow.Author.Tests.{le-leb, lt-leb, eq-eqb, ne-eqb}
 use Rattle.sha256.specs.Bytes.{tabulate}
 use Rattle.sha256.specs.Digest.{accepted, refusal, digestOut}
-use Rattle.sha256.proofs.Tabulate.{tabulated, fill-more, filled}
+use Rattle.sha256.proofs.Tabulate.{tabulated, Filled, fill-more, filled}
 use Rattle.sha256.proofs.DigestBytes.{length-sha256}
 use Rattle.sha256.proofs.digest.Statement.{statement}
 use Rattle.sha256.proofs.digest.Tie as tie
-use Rattle.sha256.proofs.digest.Reads as reads
-use Rattle.sha256.proofs.digest.Lts as lts
-use Rattle.sha256.proofs.hash.Reads as hash-reads
 
 abbrev Inv-loop : tie.InvT-loop
-Inv-loop message out₀ d i₀ out i =
-    (i ≤ 32) × (length out ≡ length out₀) × (take i out ≡ tabulate i (λ k. getD d k 0))
+Inv-loop message out₀ d i₀ out i = Filled (λ k. getD d k 0) 32 (length out₀) out i
 
 abbrev μ-loop : tie.MeasureT-loop
 μ-loop message out₀ d i₀ out i = 32 - i
 
 returns : tie.Need-returns Inv-loop μ-loop
 unfolding accepted refusal digestOut
-returns c = simp (lt-leb _ _ (c .if1 .taken)) (refl, refl)
+returns c =
+    let n = length (c .before .before .before .args .message .now) in
+    simp (lt-leb n 65535 (omega arith)) (refl, refl)
 
 returns-2 : tie.Need-returns-2 Inv-loop μ-loop
 unfolding accepted refusal digestOut
-returns-2 c = simp (le-leb _ _ (c .before .if1 .left), ne-eqb _ _ (c .if2 .taken)) (refl, refl)
+returns-2 c =
+    let start = c .before .before .before .before in
+    let n = length (start .args .message .now) in
+    let k = length (start .args .out .now) in
+    simp (le-leb n 65535 (omega arith), ne-eqb k 32 (c .if2 .taken)) (refl, refl)
 
 loop-holds : tie.Need-loop-holds Inv-loop μ-loop
 unfolding tabulate
@@ -39,7 +41,8 @@ loop-again : tie.Need-loop-again Inv-loop μ-loop
 loop-again c =
     let at-loop = c .before in
     let d = at-loop .before .hash .result in
-    (omega arith, simp length-set (at-loop .loop .inv .1), fill-more (at-loop .loop .out) (λ k. getD d k 0) (at-loop .loop .i) (getD d (at-loop .loop .i) 0) (omega arith) (at-loop .loop .inv .2) refl)
+    let i = at-loop .loop .i in
+    fill-more (λ k. getD d k 0) 32 _ (at-loop .loop .out) i (getD d i 0) (omega arith) (c .loop-test .taken) (at-loop .loop .inv) refl
 
 same-length : tie.Need-same-length Inv-loop μ-loop
 same-length c = c .before .loop .inv .1
@@ -50,10 +53,10 @@ returns-3 c =
     let at-loop = c .before in
     let at-hash = at-loop .before in
     let d = at-hash .hash .result in
-    let written : at-loop .loop .out ≡ d =
-    filled (at-loop .loop .out) 32 (at-loop .loop .i) (λ k. getD d k 0) (omega arith) (c .loop-test .left) (at-loop .loop .inv .0) (at-loop .loop .inv .2)
-    ∙ tabulated d 32 (λ k. getD d k 0) (ap length (at-hash .hash .ensures) ∙ length-sha256 _) (λ i h. refl) in
-    simp (le-leb _ _ (at-hash .before .before .if1 .left), eq-eqb _ _ (at-hash .before .if2 .left)) (refl, written ∙ at-hash .hash .ensures)
+    let e : length (at-loop .before .before .before .before .before .before .args .out .now) ≡ 32 = at-hash .before .if2 .left in
+    let written : at-loop .loop .out ≡ tabulate 32 (λ k. getD d k 0) = filled (λ k. getD d k 0) 32 (at-loop .loop .out) (at-loop .loop .i) (c .loop-test .left) (rw e at (at-loop .loop .inv)) in
+    let copied : tabulate 32 (λ k. getD d k 0) ≡ d = tabulated d 32 (λ k. getD d k 0) (ap length (at-hash .hash .ensures) ∙ length-sha256 _) (λ i h. refl) in
+    simp (le-leb _ _ (at-hash .before .before .if1 .left), eq-eqb _ _ e) (refl, written ∙ copied ∙ at-hash .hash .ensures)
 
 pub digest-spec : {M : Type 1} → statement M
 digest-spec =

@@ -1,13 +1,13 @@
 -- `hash` meets its contract. The loop's invariant: the first i bytes of the array are those of the hash value's words.
 use mathlib.Core.Path.{_≡_, refl, ap, _∙_}
 use mathlib.Core.List.{List}
-use Prim.Native.Nat.{ℕ, _≤_, _*_, _-_, _/_, _%_}
+use Prim.Native.Nat.{ℕ, _*_, _-_, _/_, _%_}
 use native.Mathlib.Omega.{arith}
-use lib.ListN.{length, getD, take, length-set}
+use lib.ListN.{length, getD}
 use borrow.Author.Needs.{needs}
 use Rattle.sha256.specs.Bytes.{tabulate, byteOf}
 use Rattle.sha256.specs.Sha256.{joined, hashWords, sha256}
-use Rattle.sha256.proofs.Tabulate.{tabulated, fill-more, filled}
+use Rattle.sha256.proofs.Tabulate.{tabulated, Filled, fill-more, filled}
 use Rattle.sha256.proofs.DigestBytes.{length-joined, joined-at}
 use Rattle.sha256.proofs.hash.Statement.{statement}
 use Rattle.sha256.proofs.hash.Tie as tie
@@ -21,7 +21,7 @@ unfolding joinedByte
 joined-bytes w n e = tabulated (joined w) n (joinedByte w) (length-joined w ∙ e) (λ i h. joined-at w i (omega arith))
 
 abbrev Inv-loop : tie.InvT-loop
-Inv-loop message w out₀ i₀ out i = (i ≤ 32) × (length out ≡ 32) × (take i out ≡ tabulate i (joinedByte w))
+Inv-loop message w out₀ i₀ out i = Filled (joinedByte w) 32 32 out i
 
 abbrev μ-loop : tie.MeasureT-loop
 μ-loop message w out₀ i₀ out i = 32 - i
@@ -35,7 +35,7 @@ unfolding joinedByte
 loop-again c =
     let at-loop = c .before .before in
     let w = at-loop .before .words .result in
-    (omega arith, simp length-set (at-loop .loop .inv .1), fill-more (at-loop .loop .out) (joinedByte w) (at-loop .loop .i) (c .byte-of .result) (omega arith) (at-loop .loop .inv .2) (c .byte-of .ensures))
+    fill-more (joinedByte w) 32 32 (at-loop .loop .out) (at-loop .loop .i) (c .byte-of .result) (omega arith) (c .before .loop-test .taken) (at-loop .loop .inv) (c .byte-of .ensures)
 
 returns : tie.Need-returns Inv-loop μ-loop
 unfolding sha256 hashWords
@@ -43,7 +43,7 @@ returns c =
     let at-loop = c .before in
     let at-words = at-loop .before in
     let w = at-words .words .result in
-    filled (at-loop .loop .out) 32 (at-loop .loop .i) (joinedByte w) (at-loop .loop .inv .1) (c .loop-test .left) (at-loop .loop .inv .0) (at-loop .loop .inv .2)
+    filled (joinedByte w) 32 (at-loop .loop .out) (at-loop .loop .i) (c .loop-test .left) (at-loop .loop .inv)
     ∙ joined-bytes w 32 (ap (λ (l : List ℕ). 4 * length l) (at-words .words .ensures))
     ∙ ap joined (at-words .words .ensures ∙ ap hashWords (at-words .before .last-value .ensures))
 

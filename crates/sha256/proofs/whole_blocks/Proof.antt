@@ -1,10 +1,8 @@
 -- `whole_blocks` meets its contract. The loop's invariant: the state is the hash value after the first i blocks, which are the
 -- padded message's since they are whole in the message.
-use mathlib.Core.Path.{_≡_, refl, sym, ap, _∙_}
-use mathlib.Core.List.{List}
-use Prim.Native.Nat.{ℕ, _≤_, _+_, _*_, _-_, _/_}
+use mathlib.Core.Path.{_≡_, sym, ap, _∙_}
+use Prim.Native.Nat.{_≤_, _-_, _/_}
 use native.Mathlib.Omega.{arith}
-use native.Mathlib.Numerals.{add-one}
 use lib.ListN.{length}
 use borrow.Author.Needs.{needs}
 use Rattle.sha256.specs.State.{variables}
@@ -14,10 +12,6 @@ use Rattle.sha256.proofs.PaddedMessage.{whole-block, part-block, length
 use Rattle.sha256.proofs.HashValue.{hashValue-more}
 use Rattle.sha256.proofs.whole_blocks.Statement.{statement}
 use Rattle.sha256.proofs.whole_blocks.Tie as tie
-use Rattle.sha256.proofs.whole_blocks.Reads as reads
-use Rattle.sha256.proofs.whole_blocks.Lts as lts
-use Rattle.sha256.proofs.block.hash_block.Reads as hash-block-reads
-use Rattle.sha256.proofs.constants.initial_state.Reads as initial-state-reads
 
 abbrev Inv-loop : tie.InvT-loop
 Inv-loop message count s₀ i₀ s i = (i ≤ length message / 64) × (variables s ≡ hashValue (pad message) i)
@@ -28,21 +22,6 @@ abbrev μ-loop : tie.MeasureT-loop
 loop-holds : tie.Need-loop-holds Inv-loop μ-loop
 unfolding hashValue
 loop-holds c = (omega arith, c .initial-state .ensures)
-
-mul-at : tie.Need-mul-at Inv-loop μ-loop
-mul-at c = search needs
-
-add-end : tie.Need-add-end Inv-loop μ-loop
-add-end c = search needs
-
-sub-hash-block : tie.Need-sub-hash-block Inv-loop μ-loop
-sub-hash-block c = search needs
-
-part-hash-block-start : tie.Need-part-hash-block-start Inv-loop μ-loop
-part-hash-block-start c = search needs
-
-part-hash-block-end : tie.Need-part-hash-block-end Inv-loop μ-loop
-part-hash-block-end c = search needs
 
 hash-block-requires : tie.Need-hash-block-requires Inv-loop μ-loop
 unfolding blockCount
@@ -69,11 +48,11 @@ whole-blocks-spec =
     μ-loop
     (λ c κs. search needs)
     loop-holds
-    mul-at
-    add-end
-    sub-hash-block
-    part-hash-block-start
-    part-hash-block-end
+    (λ c. search needs)
+    (λ c. search needs)
+    (λ c. search needs)
+    (λ c. search needs)
+    (λ c. search needs)
     hash-block-requires
     (λ c. search needs)
     (λ c. search needs)

@@ -1,28 +1,21 @@
 -- `block::hash_block` meets its contract. The loop's invariant: the array holds the first t + 16 words of the message schedule, and
 -- the working variables are those after t rounds.
-use mathlib.Core.Path.{_≡_, refl, sym, ap, _∙_}
+use mathlib.Core.Path.{_≡_, refl, ap, _∙_}
 use mathlib.Core.List.{List}
 use mathlib.Core.Logic.{⊎-elim}
 use Prim.Native.Nat.{ℕ, _≤_, _+_, _-_}
 use native.Mathlib.Omega.{arith}
-use lib.ListN.{length, getD, length-set}
+use lib.ListN.{length, length-set}
 use borrow.Author.Needs.{needs}
 use Rattle.sha256.specs.State.{variables}
 use Rattle.sha256.specs.Words.{Variables}
 use Rattle.sha256.specs.Padding.{wordsOf}
 use Rattle.sha256.specs.Sha256.{schedule, rounds, added, compress}
-use Rattle.sha256.proofs.MessageSchedule.{Holds, holds-first, holds-more, holds-next}
+use Rattle.sha256.proofs.MessageSchedule.{Holds, holds-first, holds-step, holds-all}
 use Rattle.sha256.proofs.HashValue.{rounds-more}
 use Rattle.sha256.proofs.Tabulate.{length-tabulate}
 use Rattle.sha256.proofs.block.hash_block.Statement.{statement}
 use Rattle.sha256.proofs.block.hash_block.Tie as tie
-use Rattle.sha256.proofs.block.hash_block.Reads as reads
-use Rattle.sha256.proofs.block.hash_block.Lts as lts
-use Rattle.sha256.proofs.block.add_states.Reads as add-states-reads
-use Rattle.sha256.proofs.block.load.Reads as load-reads
-use Rattle.sha256.proofs.block.scheduled.Reads as scheduled-reads
-use Rattle.sha256.proofs.block.turn.Reads as turn-reads
-use Rattle.sha256.proofs.constants.constants.Reads as constants-reads
 
 length-words : (m : List ℕ) → length (wordsOf m) ≡ 16
 unfolding wordsOf
@@ -47,17 +40,12 @@ word-set : (c : tie.Joined1 Inv-loop μ-loop) → (length (c .if1 .w) ≡ 64) ×
 word-set c =
     let at-loop = c .before .before .before in
     let m = wordsOf (at-loop .before .before .before .before .args .block .now) in
-    let u = schedule 48 m in
     let w = at-loop .loop .w in
     let t = at-loop .loop .t in
     let inv = at-loop .loop .inv in
-    let e : t + 1 + 16 ≡ t + 16 + 1 = omega arith in
     ⊎-elim
-    (λ came.
-    let v = came .1 .result in
-    let next : v ≡ getD u (t + 16) 0 = came .1 .ensures ∙ holds-next m w t (length-words _) (came .0 .taken) (inv .2) in
-    rw (came .2, e) (simp length-set (inv .1), holds-more u w (t + 16) v (omega arith) next (inv .2)))
-    (λ came. rw (came .1) (inv .1, λ i lt fits. inv .2 i (omega arith) fits))
+    (λ came. rw (came .3) (simp length-set (inv .1), holds-step m w t (came .2 .result) (length-words _) (inv .1) (came .0 .taken) (inv .2) (came .2 .ensures)))
+    (λ came. rw (came .1) (inv .1, holds-all (schedule 48 m) w t (came .0 .left) (inv .2)))
     (c .if1 .came)
 
 loop-again : tie.Need-loop-again Inv-loop μ-loop
@@ -67,7 +55,7 @@ loop-again c =
     let u = schedule 48 (wordsOf (start .args .block .now)) in
     let t = at-loop .loop .t in
     let inv = at-loop .loop .inv in
-    (omega arith, word-set c .0, word-set c .1, rounds-more (at-loop .before .before .constants .result) (at-loop .loop .w) u t (variables (start .args .value)) (variables (at-loop .loop .s)) (variables (c .before .turn .result)) (at-loop .before .before .constants .ensures) (inv .2 t (omega arith) (omega arith)) (inv .3) (c .before .turn .ensures))
+    (omega arith, word-set c .0, word-set c .1, rounds-more (at-loop .before .before .constants .result) (at-loop .loop .w) u t (variables (start .args .value)) (variables (at-loop .loop .s)) (variables (c .before .round .result)) (at-loop .before .before .constants .ensures) (inv .2 t (omega arith) (omega arith)) (inv .3) (c .before .round .ensures))
 
 returns : tie.Need-returns Inv-loop μ-loop
 unfolding compress
@@ -84,31 +72,20 @@ hash-block-spec =
     (tie.spec
     Inv-loop
     μ-loop
-    (λ c κs. search needs)
+    (λ c κs. tt)
     (λ c κs. search needs)
     loop-holds
-    (λ c. search needs)
-    (λ c. search needs)
-    (λ c. search needs)
-    (λ c. search needs)
-    (λ c κs. search needs)
-    (λ c. search needs)
-    (λ c. search needs)
-    (λ c. search needs)
-    (λ c. search needs)
-    (λ c. search needs)
-    (λ c. search needs)
-    (λ c. search needs)
-    (λ c. search needs)
-    (λ c. search needs)
-    (λ c. search needs)
-    (λ c. search needs)
-    (λ c κs. search needs)
-    (λ c. search needs)
-    (λ c. search needs)
-    (λ c. search needs)
-    (λ c. search needs)
-    (λ c. search needs)
+    (λ c. omega arith)
+    (λ c. omega arith)
+    (λ c. omega arith)
+    (λ c. omega arith)
+    (λ c κs. tt)
+    (λ c. omega arith)
+    (λ c κs. omega arith)
+    (λ c. omega arith)
+    (λ c. omega arith)
+    (λ c. omega arith)
+    (λ c. omega arith)
     loop-again
-    (λ c κs. search needs)
+    (λ c κs. tt)
     returns)

@@ -1,17 +1,16 @@
 -- `block::load` meets its contract. The loop's invariant: the first i words of the array are the block's.
 use mathlib.Core.Path.{_≡_, refl}
-use Prim.Native.Nat.{_≤_, _-_}
+use Prim.Native.Nat.{_-_}
 use native.Mathlib.Omega.{arith}
-use lib.ListN.{length, take, length-set}
 use borrow.Author.Needs.{needs}
 use Rattle.sha256.specs.Bytes.{tabulate, wordAt}
 use Rattle.sha256.specs.Padding.{wordsOf}
-use Rattle.sha256.proofs.Tabulate.{fill-more}
+use Rattle.sha256.proofs.Tabulate.{Filled, fill-more}
 use Rattle.sha256.proofs.block.load.Statement.{statement}
 use Rattle.sha256.proofs.block.load.Tie as tie
 
 abbrev Inv-loop : tie.InvT-loop
-Inv-loop block w₀ i₀ w i = (i ≤ 16) × (length w ≡ 64) × (take i w ≡ tabulate i (wordAt block))
+Inv-loop block w₀ i₀ w i = Filled (wordAt block) 16 64 w i
 
 abbrev μ-loop : tie.MeasureT-loop
 μ-loop block w₀ i₀ w i = 16 - i
@@ -24,7 +23,7 @@ loop-again : tie.Need-loop-again Inv-loop μ-loop
 loop-again c =
     let at-loop = c .before .before in
     let block = at-loop .before .before .args .block .now in
-    (omega arith, simp length-set (at-loop .loop .inv .1), fill-more (at-loop .loop .w) (wordAt block) (at-loop .loop .i) (c .word-at .result) (omega arith) (at-loop .loop .inv .2) (c .word-at .ensures))
+    fill-more (wordAt block) 16 64 (at-loop .loop .w) (at-loop .loop .i) (c .word-at .result) (omega arith) (c .before .loop-test .taken) (at-loop .loop .inv) (c .word-at .ensures)
 
 returns : tie.Need-returns Inv-loop μ-loop
 unfolding wordsOf

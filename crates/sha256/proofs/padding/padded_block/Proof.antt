@@ -1,20 +1,19 @@
 -- `padding::padded_block` meets its contract. The loop's invariant: the first j bytes of the array are the padded message's from
 -- 64i on.
-use mathlib.Core.Path.{_≡_, refl, _∙_}
-use Prim.Native.Nat.{ℕ, _≤_, _+_, _*_, _-_}
+use mathlib.Core.Path.{refl, _∙_}
+use Prim.Native.Nat.{ℕ, _+_, _*_, _-_}
 use native.Mathlib.Omega.{arith}
-use lib.ListN.{length, getD, take, length-set}
+use lib.ListN.{getD}
 use borrow.Author.Needs.{needs}
 use Rattle.sha256.specs.Bytes.{tabulate}
 use Rattle.sha256.specs.Padding.{pad, block}
-use Rattle.sha256.proofs.Tabulate.{tabulated, fill-more, filled}
+use Rattle.sha256.proofs.Tabulate.{tabulated, Filled, fill-more, filled}
 use Rattle.sha256.proofs.PaddedMessage.{length-pad, blockCount-pad, length-block, block-at}
 use Rattle.sha256.proofs.padding.padded_block.Statement.{statement}
 use Rattle.sha256.proofs.padding.padded_block.Tie as tie
 
 abbrev Inv-loop : tie.InvT-loop
-Inv-loop message i at b₀ j₀ b j =
-    (j ≤ 64) × (length b ≡ 64) × (take j b ≡ tabulate j (λ k. getD (pad message) (64 * i + k) 0))
+Inv-loop message i at b₀ j₀ b j = Filled (λ k. getD (pad message) (64 * i + k) 0) 64 64 b j
 
 abbrev μ-loop : tie.MeasureT-loop
 μ-loop message i at b₀ j₀ b j = 64 - j
@@ -38,7 +37,7 @@ loop-again c =
     let at-loop = c .before .before in
     let p = pad (at-loop .before .before .args .message .now) in
     let i = at-loop .before .before .args .i in
-    (omega arith, simp length-set (at-loop .loop .inv .1), fill-more (at-loop .loop .b) (λ k. getD p (64 * i + k) 0) (at-loop .loop .j) (c .padded-byte .result) (omega arith) (at-loop .loop .inv .2) (c .padded-byte .ensures))
+    fill-more (λ k. getD p (64 * i + k) 0) 64 64 (at-loop .loop .b) (at-loop .loop .j) (c .padded-byte .result) (omega arith) (c .before .loop-test .taken) (at-loop .loop .inv) (c .padded-byte .ensures)
 
 returns : tie.Need-returns Inv-loop μ-loop
 returns c =
@@ -47,7 +46,7 @@ returns c =
     let p = pad (start .args .message .now) in
     let i = start .args .i in
     let f : ℕ → ℕ = λ k. getD p (64 * i + k) 0 in
-    filled (at-loop .loop .b) 64 (at-loop .loop .j) f (at-loop .loop .inv .1) (c .loop-test .left) (at-loop .loop .inv .0) (at-loop .loop .inv .2)
+    filled f 64 (at-loop .loop .b) (at-loop .loop .j) (c .loop-test .left) (at-loop .loop .inv)
     ∙ tabulated (block p i) 64 f (length-block p i (start .pre .1)) (block-at p i (start .pre .1))
 
 pub padded-block-spec : {M : Type 1} → statement M
