@@ -8,7 +8,9 @@ ghost use Rattle.cases.specs.Piece.{number as Piece·number, Placed};
 
 // The bytes of a case's head, of a piece's three numbers, and of a patch.
 const HEAD: usize = 3;
+
 const NUMBERS: usize = 12;
+
 const PATCH: usize = 5;
 
 // A case's first three bytes, and where its pieces start.

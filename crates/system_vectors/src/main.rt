@@ -6,7 +6,9 @@ use cases::Outcome;
 
 // The bytes that name the entries in a case.
 const CHECK: u8 = 0;
+
 const EVALUATE: u8 = 1;
+
 const POLAR: u8 = 2;
 
 fn main() {
