@@ -1,0 +1,15 @@
+//! A second implementation of the engine, written from document 01 and FIPS 180-4 alone.
+//!
+//! It is plain on purpose: sums are nested loops, G is computed from its definition, and nothing is
+//! tuned. A module renders one part of document 01 and names its section. `entries` is the engine
+//! as the outside sees it, refusals included; `vectors` makes the stored test vectors from it.
+
+pub mod entries;
+pub mod field;
+pub mod map;
+pub mod random;
+pub mod refusal;
+pub mod sha256;
+pub mod system;
+pub mod vector;
+pub mod vectors;

@@ -1,0 +1,36 @@
+//! Document 01, "Refused because of the input": the refusals by their numbers.
+
+/// Why a call is refused. Later parts add their own.
+#[derive(Clone, Copy, Debug, PartialEq, Eq)]
+pub enum Refusal {
+    /// 1: q, n, m, N or the scheme is outside its values.
+    Value,
+    /// 2: a slice's length is wrong.
+    Length,
+    /// 3: an element is not below q.
+    Element,
+}
+
+impl Refusal {
+    pub fn number(self) -> u8 {
+        match self {
+            Refusal::Value => 1,
+            Refusal::Length => 2,
+            Refusal::Element => 3,
+        }
+    }
+}
+
+/// The number that an entry answers: 0 if it is not refused.
+pub fn number(result: Result<(), Refusal>) -> u8 {
+    result.map_or_else(Refusal::number, |()| 0)
+}
+
+/// `refusal`, unless the condition holds.
+pub fn unless(condition: bool, refusal: Refusal) -> Result<(), Refusal> {
+    if condition {
+        Ok(())
+    } else {
+        Err(refusal)
+    }
+}

@@ -1,0 +1,62 @@
+//! Document 01, "The small key": K1 to K4, K10 to K12 and the unmarked cases of field and system.
+
+use reference::entries::{check, evaluate, polar};
+
+const SYSTEM: [u8; 13] = [7, 2, 2, 1, 2, 3, 1, 0, 0, 1, 5, 0, 4];
+const S: [u8; 2] = [3, 5];
+const R0: [u8; 2] = [5, 1];
+const R1: [u8; 2] = [5, 4];
+
+fn f(system: &[u8], x: &[u8]) -> Vec<u8> {
+    let mut out = vec![255; usize::from(system[2])];
+    assert_eq!(evaluate(system, x, &mut out), 0);
+    out
+}
+
+fn g(system: &[u8], x: &[u8], y: &[u8]) -> Vec<u8> {
+    let mut out = vec![255; usize::from(system[2])];
+    assert_eq!(polar(system, x, y, &mut out), 0);
+    out
+}
+
+/// A system of zeros with this head, as long as the head says.
+fn zeros(q: u8, n: u8, m: u8) -> Vec<u8> {
+    let mut system = vec![q, n, m];
+    let (n, m) = (usize::from(n), usize::from(m));
+    system.resize(3 + m * (n * (n + 1) / 2 + n), 0);
+    system
+}
+
+#[test]
+fn k1_to_k4() {
+    assert_eq!(check(&SYSTEM), 0);
+    assert_eq!(f(&SYSTEM, &S), [5, 6]);
+    assert_eq!(f(&SYSTEM, &R0), [1, 0]);
+    assert_eq!(f(&SYSTEM, &R1), [6, 4]);
+    assert_eq!(g(&SYSTEM, &R0, &R1), [5, 2]);
+}
+
+#[test]
+fn k10_to_k12() {
+    assert_eq!(f(&SYSTEM, &[0, 0]), [0, 0]);
+    assert_eq!(g(&[2, 1, 1, 1, 0], &[1], &[1]), [0]);
+    assert_eq!(f(&[251, 1, 1, 1, 0], &[250]), [1]);
+}
+
+#[test]
+fn unmarked() {
+    assert_eq!(check(&zeros(4, 2, 2)), 1);
+    assert_eq!(check(&zeros(7, 96, 1)), 0);
+    assert_eq!(check(&zeros(7, 97, 1)), 1);
+    assert_eq!(check(&[251, 1, 1, 250, 250]), 0);
+    assert_eq!(check(&[251, 1, 1, 250, 251]), 3);
+    let mut out = [255];
+    assert_eq!(evaluate(&[251, 1, 1, 1, 1], &[250], &mut out), 0);
+    assert_eq!(evaluate(&[251, 1, 1, 1, 1], &[251], &mut out), 3);
+}
+
+#[test]
+fn largest_length() {
+    assert_eq!(zeros(251, 96, 96).len(), 456_195);
+    assert_eq!(check(&zeros(251, 96, 96)), 0);
+}
