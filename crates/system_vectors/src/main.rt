@@ -81,7 +81,7 @@ fn evaluate_case(file: &[u8], at: usize, buffer: &mut [u8]) -> Outcome {
     let x_bytes = x.bytes;
     let out_length = expected.length;
     let mut out = [head.fill; 256];
-    let number = system::evaluate(
+    let number = evaluation::evaluate(
         &buffer[..length],
         &x_bytes[..x_length],
         &mut out[..out_length],
@@ -102,7 +102,7 @@ fn polar_case(file: &[u8], at: usize, buffer: &mut [u8]) -> Outcome {
     let y_bytes = y.bytes;
     let out_length = expected.length;
     let mut out = [head.fill; 256];
-    let number = system::polar(
+    let number = evaluation::polar(
         &buffer[..length],
         &x_bytes[..x_length],
         &y_bytes[..y_length],
