@@ -16,5 +16,6 @@ pub use scalar::mul;
 pub use scalar::sub;
 pub use vector::add_vectors;
 pub use vector::from_slice;
+pub use vector::held;
 pub use vector::mul_vector;
 pub use vector::sub_vectors;

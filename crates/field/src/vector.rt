@@ -18,7 +18,7 @@ pub enum Operation {
 }
 
 // How many of n elements 96 bytes hold.
-fn held(n: usize) -> usize
+pub fn held(n: usize) -> usize
     ensures { λ r. ⌜ r ≡ min n 96 ⌝ }
 {
     if n < 96 { n } else { 96 }

@@ -1,11 +1,11 @@
 -- Parts of a list, from s up to e: what stands in them, how long they are, and a list with a part of it replaced. Assumes nothing.
 use Prim.Native.Nat.{ℕ, _+_, _-_, _≤_, _<_}
-use mathlib.Core.Path.{_≡_, sym, ap, _∙_}
+use mathlib.Core.Path.{_≡_, sym, ap, ap₂, _∙_}
 use mathlib.Core.List.{List, _++_, append-nil}
 use native.Mathlib.Omega.{arith}
 use lib.ListN.{length, take, drop, length-drop, List·getD-append}
 use lib.Seq.{length-take-le, take-all, take-length, drop-length, getD-take, getD-drop, getD-append-add}
-use borrow.Rule.Slice.PartMut.{putMid, postOf}
+use borrow.Rule.Slice.PartMut.{putMid, postOf, post-is}
 use Rattle.slices.specs.Slices.{_!_}
 
 pub part-at : (a : List ℕ) (s e i : ℕ) → i < e - s → take (e - s) (drop s a) ! i ≡ a ! (s + i)
@@ -34,3 +34,9 @@ copied-at src dst l k i e copied h =
 -- a whole list is copied over
 pub copied-whole : (src dst l : List ℕ) → length src ≡ length dst → l ≡ take (length src) src ++ drop (length src) dst → l ≡ src
 copied-whole src dst l same copied = copied ∙ rw (take-length, same, drop-length, append-nil)
+
+-- a whole list is copied to a part
+pub put-whole : (a e : ℕ) (xs src l : List ℕ) → a ≤ e → e ≤ length xs → length src ≡ e - a →
+    l ≡ take (length src) src ++ drop (length src) (take (e - a) (drop a xs)) → putMid a (e - a) xs l ≡ take a xs ++ (src ++ drop e xs)
+put-whole a e xs src l h within same copied =
+    ap₂ (λ (s t : List ℕ). take a xs ++ (s ++ t)) (copied-whole src (take (e - a) (drop a xs)) l (same ∙ sym (length-part xs a e h within)) copied) (post-is a e xs h)

@@ -1,0 +1,17 @@
+-- Document 01, "Commitments".
+use Prim.Native.Nat.{ℕ}
+use mathlib.Core.List.{List, [], _∷_, _++_}
+use Rattle.sha256.specs.Sha256.{sha256}
+use Rattle.commitment.specs.declared.Domain.{Domain}
+
+-- "the scheme byte (3 or 5), the byte k (which commitment)": all that stands before ρ
+unfoldable pub prefix : Domain → ℕ → List ℕ
+prefix d k = d .scheme ∷ k ∷ []
+
+-- "32 bytes ρ, then the vectors in order, one byte an element"
+unfoldable pub hashedString : Domain → ℕ → List ℕ → List ℕ → List ℕ
+hashedString d k ρ vectors = prefix d k ++ (ρ ++ vectors)
+
+-- "Com(k, ρ, vectors) is SHA-256 of" that string
+unfoldable pub Com : Domain → ℕ → List ℕ → List ℕ → List ℕ
+Com d k ρ vectors = sha256 (hashedString d k ρ vectors)
