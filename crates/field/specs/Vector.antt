@@ -1,5 +1,5 @@
 -- Document 01, "Field and vectors": vectors, and sums over an index.
-use Prim.Native.Nat.{ℕ, zero, suc, _<_}
+use Prim.Native.Nat.{ℕ, zero, suc, _+_, _<_}
 use mathlib.Core.Path.{_≡_}
 use mathlib.Core.Bool.{Bool, true, _&&_, cond}
 use mathlib.Core.List.{List, [], _∷_}
@@ -10,6 +10,10 @@ use Rattle.field.specs.Ops.{Ops}
 -- "A vector is held by value in 96 bytes, zero beyond its length."
 unfoldable pub vector : ℕ → (ℕ → ℕ) → List ℕ
 vector n f = tabulate 96 (λ i. cond (ltb i n) (f i) 0)
+
+-- the vector of n elements that stands in a list from a place on
+unfoldable pub slotV : ℕ → ℕ → List ℕ → List ℕ
+slotV n place l = vector n (λ i. l ! (place + i))
 
 -- x is a vector of n elements
 pub record IsVector (o : Ops) (n : ℕ) (x : List ℕ) : Type 0 where

@@ -18,4 +18,5 @@ pub use vector::add_vectors;
 pub use vector::from_slice;
 pub use vector::held;
 pub use vector::mul_vector;
+pub use vector::slot;
 pub use vector::sub_vectors;

@@ -2,12 +2,13 @@
 use crate::scalar::add;
 use crate::scalar::mul;
 use crate::scalar::sub;
+use slices::byte_from;
 ghost use mathlib.Core.Path.{_≡_};
 ghost use Prim.Native.Nat.{min};
 ghost use lib.ListN.{length};
 ghost use Rattle.field.specs.Ops.{ops};
 ghost use Rattle.slices.specs.Slices.{_!_};
-ghost use Rattle.field.specs.Vector.{vector, addV, subV, mulV};
+ghost use Rattle.field.specs.Vector.{vector, slotV, addV, subV, mulV};
 ghost use Rattle.field.specs.Operation.{operation};
 
 // The operation that a loop over two vectors applies at each place.
@@ -33,6 +34,20 @@ pub fn from_slice(s: &[u8]) -> [u8; 96]
     let mut i = 0;
     while i < end {
         z[i] = s[i];
+        i += 1;
+    }
+    z
+}
+
+// The vector of n elements that stands in s from `at` on.
+pub fn slot(s: &[u8], at: usize, n: u8) -> [u8; 96]
+    ensures { λ r. ⌜ r ≡ slotV n «at» (now (s .entry)) ⌝ }
+{
+    let mut z = [0; 96];
+    let end = held(n as usize);
+    let mut i = 0;
+    while i < end {
+        z[i] = byte_from(s, at, i);
         i += 1;
     }
     z

@@ -1,2 +1,3 @@
 pub mod Tabulate
 pub mod Parts
+pub mod Sameness

@@ -1,6 +1,8 @@
 -- Lists of numbers read by place.
 use Prim.Native.Nat.{ℕ, zero, suc}
 use mathlib.Core.List.{List, [], _∷_}
+use mathlib.Core.Bool.{Bool, true, false, _&&_}
+use lib.Dec.{eqb}
 use lib.ListN.{getD}
 
 infixl 90 _!_
@@ -12,3 +14,10 @@ x ! i = getD x i 0
 unfoldable pub tabulate : ℕ → (ℕ → ℕ) → List ℕ
 tabulate zero f = []
 tabulate (suc n) f = f 0 ∷ tabulate n (λ i. f (suc i))
+
+-- whether two lists are the same
+unfoldable pub same : List ℕ → List ℕ → Bool
+same [] [] = true
+same [] (y ∷ ys) = false
+same (x ∷ xs) [] = false
+same (x ∷ xs) (y ∷ ys) = eqb x y && same xs ys

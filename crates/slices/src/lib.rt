@@ -1,10 +1,49 @@
 // Reading a slice of bytes by place, with no check left to the caller.
 ghost use mathlib.Core.Path.{_≡_};
-ghost use Rattle.slices.specs.Slices.{_!_};
+ghost use Prim.Native.Nat.{_+_};
+ghost use Rattle.slices.specs.Slices.{_!_, tabulate, same};
 
 // The byte at place i, and 0 beyond the end.
 pub fn byte_at(s: &[u8], i: usize) -> u8
     ensures { λ r. ⌜ r ≡ now (s .entry) ! i ⌝ }
 {
     if i < s.len() { s[i] } else { 0 }
+}
+
+// The byte at i places behind `at`, and 0 beyond the end.
+pub fn byte_from(s: &[u8], at: usize, i: usize) -> u8
+    ensures { λ r. ⌜ r ≡ now (s .entry) ! (at + i) ⌝ }
+{
+    if at < s.len() {
+        if i < s.len() - at { s[at + i] } else { 0 }
+    } else {
+        0
+    }
+}
+
+// The 32 bytes from `at` on, zero beyond the end.
+pub fn bytes32(s: &[u8], at: usize) -> [u8; 32]
+    ensures { λ r. ⌜ r ≡ tabulate 32 (λ i. now (s .entry) ! (at + i)) ⌝ }
+{
+    let mut out = [0; 32];
+    let mut i = 0;
+    while i < 32 {
+        out[i] = byte_from(s, at, i);
+        i += 1;
+    }
+    out
+}
+
+// Whether two lists of 32 bytes are the same.
+pub fn same32(a: [u8; 32], b: [u8; 32]) -> bool
+    ensures { λ r. ⌜ r ≡ same a b ⌝ }
+{
+    let mut i = 0;
+    while i < 32 {
+        if a[i] != b[i] {
+            return false;
+        }
+        i += 1;
+    }
+    true
 }

@@ -1,0 +1,44 @@
+-- The test `same` and equality of lists. Assumes nothing.
+use Prim.Native.Nat.{ℕ, zero, suc, _<_}
+use mathlib.Core.Path.{_≡_, refl, sym, ap, ap₂, _∙_}
+use mathlib.Core.Bool.{Bool, true, false, false≢true, _&&_}
+use mathlib.Core.List.{List, [], _∷_}
+use lib.Dec.{eqb}
+use lib.ListN.{length}
+use lib.Seq.{ext-getD}
+use borrow.Author.Tests.{eqb-true, eq-eqb}
+use Rattle.slices.specs.Slices.{_!_, same}
+
+and-left : (a b : Bool) → (a && b) ≡ true → a ≡ true
+and-left true b e = refl
+and-left false b e = e
+
+and-right : (a b : Bool) → (a && b) ≡ true → b ≡ true
+and-right true b e = e
+and-right false b e = absurd (false≢true e)
+
+pub same-refl : (l : List ℕ) → same l l ≡ true
+unfolding same
+same-refl [] = refl
+same-refl (x ∷ l) = rw (eq-eqb x x refl) (same-refl l)
+
+pub same-true : (l k : List ℕ) → same l k ≡ true → l ≡ k
+unfolding same
+same-true [] [] e = refl
+same-true [] (y ∷ k) e = absurd (false≢true e)
+same-true (x ∷ l) [] e = absurd (false≢true e)
+same-true (x ∷ l) (y ∷ k) e = ap₂ _∷_ (eqb-true x y (and-left (eqb x y) (same l k) e)) (same-true l k (and-right (eqb x y) (same l k) e))
+
+pub same-by : (l k : List ℕ) → l ≡ k → same l k ≡ true
+same-by l k e = rw e (same-refl k)
+
+-- lists of one length that agree at each place, and lists that differ at one
+pub same-each : (l k : List ℕ) (n : ℕ) → length l ≡ n → length k ≡ n → ((i : ℕ) → i < n → l ! i ≡ k ! i) → same l k ≡ true
+same-each l k n hl hk each = same-by l k (ext-getD 0 l k (hl ∙ sym hk) (λ i h. each i (rw hl at h)))
+
+pub same-differs : (l k : List ℕ) (i : ℕ) → (l ! i ≡ k ! i → ⊥) → same l k ≡ false
+same-differs l k i differ = go (same l k) refl
+  where
+    go : (t : Bool) → same l k ≡ t → same l k ≡ false
+    go true e = absurd (differ (ap (λ (m : List ℕ). m ! i) (same-true l k e)))
+    go false e = e
