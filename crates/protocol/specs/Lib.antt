@@ -1,0 +1,4 @@
+-- What contracts and theorems about rounds cite.
+pub mod Protocols
+pub mod Rounds
+pub mod Structure
