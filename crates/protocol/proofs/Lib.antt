@@ -1,1 +1,3 @@
 pub mod Groups
+pub mod Properties
+pub mod SystemMap
