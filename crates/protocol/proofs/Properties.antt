@@ -119,10 +119,10 @@ module _ {X Y S : Type 0} {o : QuadraticOps X Y S} {IsX : X → Type 0} {IsY : Y
   -- ---- the simulator
 
   -- Simulation: without s, the reply to every challenge but Ch* opens what was committed to.
-  pub simulation : (guess : ℕ) → guess ≤ 2 → (v : Y) (s′ r0 t0 : X) (e0 : Y) → IsY v → IsX s′ → IsX r0 → IsX t0 → IsY e0 →
+  pub simulates : (guess : ℕ) → guess ≤ 2 → (v : Y) (s′ r0 t0 : X) (e0 : Y) → IsY v → IsX s′ → IsX r0 → IsX t0 → IsY e0 →
       (challenge : ℕ) → (challenge ≡ guess → ⊥) → OpensThree o v (simulated o guess v s′ r0 t0 e0) challenge
   unfolding simulated simulatedE1 simulatedMask t1Of e1Of t0Of e0Of
-  simulation zero h v s′ r0 t0 e0 hv hs hr ht he challenge differ =
+  simulates zero h v s′ r0 t0 e0 hv hs hr ht he challenge differ =
       let r1 = r1Of o s′ r0 in
       let d = subY v (F s′) in
       let sorted : addY (F r1) (addY (addY d (F r0)) (G r0 r1)) ≡ addY d (addY (F r1) (addY (F r0) (G r0 r1))) = simp (k .groupY .add-assoc, add-left-comm (k .groupY)) in
@@ -132,18 +132,18 @@ module _ {X Y S : Type 0} {o : QuadraticOps X Y S} {IsX : X → Type 0} {IsY : Y
         one = λ c. opened-three v (addY d (F r0)) r0 t0 r1 e0 hr (k .groupY .add-is d _) (sorted ∙ ap (addY d) (sym (F-split s′ r0 hs)) ∙ k .groupY .sub-add v (F s′) hv);
         two = λ c. refl;
       }
-  simulation (suc zero) h v s′ r0 t0 e0 hv hs hr ht he challenge differ =
+  simulates (suc zero) h v s′ r0 t0 e0 hv hs hr ht he challenge differ =
       record {
         zero-t = λ c. sub-sub (k .groupX) r0 t0 hr ht;
         zero-e = λ c. sub-sub (k .groupY) (F r0) e0 (k .F-is r0) he;
         one = λ c. absurd (differ c);
         two = λ c. refl;
       }
-  simulation (suc (suc zero)) h v s′ r0 t0 e0 hv hs hr ht he challenge differ =
+  simulates (suc (suc zero)) h v s′ r0 t0 e0 hv hs hr ht he challenge differ =
       record {
         zero-t = λ c. sub-sub (k .groupX) r0 t0 hr ht;
         zero-e = λ c. sub-sub (k .groupY) (F r0) e0 (k .F-is r0) he;
         one = λ c. refl;
         two = λ c. absurd (differ c);
       }
-  simulation (suc (suc (suc guess))) h v s′ r0 t0 e0 hv hs hr ht he challenge differ = absurd (omega arith)
+  simulates (suc (suc (suc guess))) h v s′ r0 t0 e0 hv hs hr ht he challenge differ = absurd (omega arith)

@@ -16,7 +16,7 @@ use Rattle.system.specs.System.{qOf, nOf, mOf, opsOf, quadratic, linear, F, G}
 use Rattle.evaluation.proofs.Forms.{polynomial-below}
 use Rattle.evaluation.proofs.Laws.{F-add, G-add-left, G-mul}
 use Rattle.protocol.specs.Structure.{AbelianGroup, QuadraticMap}
-use Rattle.protocol.specs.Rounds.{mapOf}
+use Rattle.protocol.specs.Rounds.{mapOf, IsX, IsY, IsScalar}
 
 module _ (o : Ops) (k : Field o) where
   open Ops o using (size, add, sub, mul)
@@ -84,8 +84,7 @@ module _ (o : Ops) (k : Field o) where
         cancel-difference a b (x ! i) (y ! i) ha hb differ (hx .elements i) (hy .elements i) (simp vector-at at (ap (λ (t : List ℕ). t ! i) e)))
 
 -- a system of at most 96 unknowns is a quadratic map
-pub system-map : (b : List ℕ) → nOf b ≤ 96 →
-    QuadraticMap (mapOf b) (IsVector (opsOf b) (nOf b)) (IsVector (opsOf b) (mOf b)) (λ α. α < opsOf b .size)
+pub system-map : (b : List ℕ) → nOf b ≤ 96 → QuadraticMap (mapOf b) (IsX b) (IsY b) (IsScalar b)
 unfolding mapOf F
 system-map b small =
     record {
