@@ -1,13 +1,17 @@
 -- Completeness, special soundness and simulation, each once for every structure. Assumes nothing.
 use Prim.Native.Nat.{ℕ, zero, suc, _≤_}
 use mathlib.Core.Path.{_≡_, refl, sym, ap, ap₂, _∙_}
-use mathlib.Core.Bool.{cond}
+use mathlib.Core.Bool.{Bool, true, false, cond}
 use native.Mathlib.Omega.{arith}
 use lib.Dec.{eqb}
 use Rattle.protocol.specs.Structure.{AbelianGroup, QuadraticOps, QuadraticMap}
-use Rattle.protocol.specs.Protocols.{Vectors, r1Of, t1Of, e1Of, masked, t0Of, e0Of, unmasked, cardThree, OpensThree, AgreeThree}
+use Rattle.protocol.specs.Protocols.{Vectors, AreElements, r1Of, t1Of, e1Of, masked, t0Of, e0Of, unmasked, cardThree, OpensThree, AgreeThree}
 use Rattle.protocol.specs.Protocols.{t1By, e1By, t0By, e0By, unmaskedBy, cardFive, OpensFive, AgreeFive, simulatedE1, simulatedMask, simulated}
 use Rattle.protocol.proofs.Groups.{add-left-comm, sub-of, of-sub, sub-sub, sub-two, of-sub-two, same-difference}
+
+either-is : {A : Type 0} (P : A → Type 0) (c : Bool) (a b : A) → P a → P b → P (cond c a b)
+either-is P true a b ha hb = ha
+either-is P false a b ha hb = hb
 
 module _ {X Y S : Type 0} {o : QuadraticOps X Y S} {IsX : X → Type 0} {IsY : Y → Type 0} {IsScalar : S → Type 0} (k : QuadraticMap o IsX IsY IsScalar) where
   open QuadraticOps o using (addX, subX, mulX, addY, subY, mulY, F, G)
@@ -86,9 +90,9 @@ module _ {X Y S : Type 0} {o : QuadraticOps X Y S} {IsX : X → Type 0} {IsY : Y
         zero-t = λ c. sub-sub (k .groupX) (mulX α r0) t0 (k .mulX-is α r0) ht;
         zero-e = λ c. sub-sub (k .groupY) (mulY α (F r0)) e0 (k .mulY-is α _) he;
         one = λ c. opened _ (mulY α (F r0)) (mulX α r0) t0 (r1Of o s r0) e0 (k .mulX-is α r0) (k .mulY-is α _)
-        (ap (mulY α) (sub-of (k .groupY) v (F (r1Of o s r0)) _ (k .groupY .add-is _ _) (sym (F-split s r0 hs) ∙ e)) ∙
-        k .mul-add α (F r0) (G r0 (r1Of o s r0)) ∙
-        ap (addY (mulY α (F r0))) (sym (k .G-mul α r0 (r1Of o s r0))));
+            (ap (mulY α) (sub-of (k .groupY) v (F (r1Of o s r0)) _ (k .groupY .add-is _ _) (sym (F-split s r0 hs) ∙ e)) ∙
+            k .mul-add α (F r0) (G r0 (r1Of o s r0)) ∙
+            ap (addY (mulY α (F r0))) (sym (k .G-mul α r0 (r1Of o s r0))));
       }
 
   -- α(v - F(r1)) and α(F(r0) + G(r0,r1)) differ by what the openings show
@@ -147,3 +151,26 @@ module _ {X Y S : Type 0} {o : QuadraticOps X Y S} {IsX : X → Type 0} {IsY : Y
         two = λ c. absurd (differ c);
       }
   simulates (suc (suc (suc guess))) h v s′ r0 t0 e0 hv hs hr ht he challenge differ = absurd (omega arith)
+
+  -- ---- elements
+
+  -- r1 and t1 are differences in every round
+  formed : (s x r0 t0 : X) (e0 e1 mask : Y) → IsX r0 → IsX t0 → IsY e0 → IsY e1 → IsY mask →
+      AreElements IsX IsY (record { r0 = r0; r1 = subX s r0; t0 = t0; t1 = subX x t0; e0 = e0; e1 = e1; mask = mask })
+  formed s x r0 t0 e0 e1 mask hr ht he he1 hm =
+      record { r0-is = hr; r1-is = k .groupX .sub-is _ _; t0-is = ht; t1-is = k .groupX .sub-is _ _; e0-is = he; e1-is = he1; mask-is = hm }
+
+  -- All vectors of a round are elements, where those lent are.
+  pub are-elements-three : (s r0 t0 : X) (e0 : Y) → IsX r0 → IsX t0 → IsY e0 → AreElements IsX IsY (cardThree o s r0 t0 e0)
+  unfolding cardThree r1Of t1Of e1Of masked
+  are-elements-three s r0 t0 e0 hr ht he = formed s r0 r0 t0 e0 _ _ hr ht he (k .groupY .sub-is _ _) (k .groupY .add-is _ _)
+
+  pub are-elements-five : (α : S) (s r0 t0 : X) (e0 : Y) → IsX r0 → IsX t0 → IsY e0 → AreElements IsX IsY (cardFive o α s r0 t0 e0)
+  unfolding cardFive r1Of t1By e1By masked
+  are-elements-five α s r0 t0 e0 hr ht he = formed s (mulX α r0) r0 t0 e0 _ _ hr ht he (k .groupY .sub-is _ _) (k .groupY .add-is _ _)
+
+  pub are-elements-simulated : (guess : ℕ) (v : Y) (s′ r0 t0 : X) (e0 : Y) → IsX r0 → IsX t0 → IsY e0 → AreElements IsX IsY (simulated o guess v s′ r0 t0 e0)
+  unfolding simulated simulatedE1 simulatedMask r1Of t1Of e1Of masked unmasked
+  are-elements-simulated guess v s′ r0 t0 e0 hr ht he =
+      formed s′ r0 r0 t0 e0 _ _ hr ht he (either-is IsY (eqb guess 0) _ _ (k .groupY .sub-is _ _) (k .groupY .sub-is _ _))
+      (either-is IsY (eqb guess 2) _ _ (k .groupY .sub-is _ _) (k .groupY .add-is _ _))

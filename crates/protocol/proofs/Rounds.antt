@@ -6,9 +6,10 @@ use Rattle.field.specs.Vector.{addV}
 use Rattle.system.specs.System.{nOf, opsOf, F, systemRefusal}
 use Rattle.system.proofs.SystemLayout.{accepted}
 use Rattle.protocol.specs.Structure.{QuadraticMap}
-use Rattle.protocol.specs.Protocols.{cardThree, cardFive, simulated, OpensThree, OpensFive, AgreeThree, AgreeFive}
+use Rattle.protocol.specs.Protocols.{AreElements, cardThree, cardFive, simulated, OpensThree, OpensFive, AgreeThree, AgreeFive}
 use Rattle.protocol.specs.Rounds.{mapOf, IsX, IsY, IsScalar}
 use Rattle.protocol.proofs.Properties.{complete-three, sound-three, complete-five, sound-five, simulates}
+use Rattle.protocol.proofs.Properties.{are-elements-three, are-elements-five, are-elements-simulated}
 use Rattle.protocol.proofs.SystemMap.{system-map}
 
 module _ (b : List ℕ) (good : systemRefusal b ≡ 0) where
@@ -43,3 +44,14 @@ module _ (b : List ℕ) (good : systemRefusal b ≡ 0) where
   pub simulation : (guess : ℕ) → guess ≤ 2 → (v s′ r0 t0 e0 : List ℕ) → IsY b v → IsX b s′ → IsX b r0 → IsX b t0 → IsY b e0 →
       (challenge : ℕ) → (challenge ≡ guess → ⊥) → OpensThree (mapOf b) v (simulated (mapOf b) guess v s′ r0 t0 e0) challenge
   simulation = simulates quadratic-map
+
+  -- The vectors that are formed in a round are vectors of n and of m elements, where those lent are.
+  pub elements-three : (s r0 t0 e0 : List ℕ) → IsX b r0 → IsX b t0 → IsY b e0 → AreElements (IsX b) (IsY b) (cardThree (mapOf b) s r0 t0 e0)
+  elements-three = are-elements-three quadratic-map
+
+  pub elements-five : (α : ℕ) (s r0 t0 e0 : List ℕ) → IsX b r0 → IsX b t0 → IsY b e0 → AreElements (IsX b) (IsY b) (cardFive (mapOf b) α s r0 t0 e0)
+  elements-five = are-elements-five quadratic-map
+
+  pub elements-simulated : (guess : ℕ) (v s′ r0 t0 e0 : List ℕ) → IsX b r0 → IsX b t0 → IsY b e0 →
+      AreElements (IsX b) (IsY b) (simulated (mapOf b) guess v s′ r0 t0 e0)
+  elements-simulated = are-elements-simulated quadratic-map

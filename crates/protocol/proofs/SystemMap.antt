@@ -37,20 +37,20 @@ module _ (o : Ops) (k : Field o) where
   -- ---- vectors of n elements
 
   module _ (n : ℕ) where
-    pub is-vector : (f : ℕ → ℕ) → ((i : ℕ) → f i < size) → IsVector o n (vector n f)
+    pub is-vector : (f : ℕ → ℕ) → ((i : ℕ) → i < n → f i < size) → IsVector o n (vector n f)
     unfolding vector
     is-vector f below =
         record {
           held = vector-cong n f _ (λ i h l. sym (vector-at n f i h l));
           elements = λ i.
-          elim (decLe n i) [
-            | yes h ↦ rw (vector-beyond n f i h) (k .zero-below)
-            | no h ↦
-              elim (decLe 96 i) [
-                | yes l ↦ rw (tabulate-beyond 96 _ i l) (k .zero-below)
-                | no l ↦ rw (vector-at n f i (lt-of-not-le h) (lt-of-not-le l)) (below i)
-              ]
-          ];
+              elim (decLe n i) [
+                | yes h ↦ rw (vector-beyond n f i h) (k .zero-below)
+                | no h ↦
+                    elim (decLe 96 i) [
+                      | yes l ↦ rw (tabulate-beyond 96 _ i l) (k .zero-below)
+                      | no l ↦ rw (vector-at n f i (lt-of-not-le h) (lt-of-not-le l)) (below i (lt-of-not-le h))
+                    ]
+              ];
         }
 
     -- vectors with the same elements are equal
@@ -61,8 +61,8 @@ module _ (o : Ops) (k : Field o) where
     unfolding addV subV
     vectors =
         record {
-          add-is = λ x y. is-vector _ (λ i. k .add-below _ _);
-          sub-is = λ x y. is-vector _ (λ i. k .sub-below _ _);
+          add-is = λ x y. is-vector _ (λ i h. k .add-below _ _);
+          sub-is = λ x y. is-vector _ (λ i h. k .sub-below _ _);
           add-assoc = λ x y z. vector-cong n _ _ (λ i h l. simp vector-at (k .add-assoc (x ! i) (y ! i) (z ! i)));
           add-comm = λ x y. vector-cong n _ _ (λ i h l. k .add-comm (x ! i) (y ! i));
           sub-add = λ x y hx. vector-cong n _ _ (λ i h l. simp vector-at (k .sub-add (x ! i) (y ! i) (hx .elements i))) ∙ sym (hx .held);
@@ -74,7 +74,7 @@ module _ (o : Ops) (k : Field o) where
 
     mulV-is : (a : ℕ) (x : List ℕ) → IsVector o n (mulV o n a x)
     unfolding mulV
-    mulV-is a x = is-vector _ (λ i. k .mul-below _ _)
+    mulV-is a x = is-vector _ (λ i h. k .mul-below _ _)
 
     cancelV : (a b : ℕ) → a < size → b < size → (a ≡ b → ⊥) → (x y : List ℕ) → IsVector o n x → IsVector o n y →
         subV o n (mulV o n a x) (mulV o n b x) ≡ subV o n (mulV o n a y) (mulV o n b y) → x ≡ y
@@ -92,7 +92,7 @@ system-map b small =
       groupY = vectors (opsOf b) (field (qOf b)) (mOf b);
       mulX-is = mulV-is (opsOf b) (field (qOf b)) (nOf b);
       mulY-is = mulV-is (opsOf b) (field (qOf b)) (mOf b);
-      F-is = λ x. is-vector (opsOf b) (field (qOf b)) (mOf b) _ (λ l. polynomial-below (opsOf b) (field (qOf b)) (nOf b) (quadratic b l) (linear b l) _);
+      F-is = λ x. is-vector (opsOf b) (field (qOf b)) (mOf b) _ (λ l h. polynomial-below (opsOf b) (field (qOf b)) (nOf b) (quadratic b l) (linear b l) _);
       F-add = F-add b small;
       G-add = G-add-left b small;
       G-mul = G-mul b small;

@@ -16,6 +16,16 @@ pub record Vectors (X Y : Type 0) : Type 0 where
   pub e1 : Y
   pub mask : Y
 
+-- each of them is an element
+pub record AreElements {X Y : Type 0} (IsX : X → Type 0) (IsY : Y → Type 0) (w : Vectors X Y) : Type 0 where
+  pub r0-is : IsX (w .r0)
+  pub r1-is : IsX (w .r1)
+  pub t0-is : IsX (w .t0)
+  pub t1-is : IsX (w .t1)
+  pub e0-is : IsY (w .e0)
+  pub e1-is : IsY (w .e1)
+  pub mask-is : IsY (w .mask)
+
 module _ {X Y S : Type 0} (o : QuadraticOps X Y S) where
   open QuadraticOps o using (addX, subX, mulX, addY, subY, mulY, F, G)
 
