@@ -1,11 +1,12 @@
--- Completeness, special soundness and simulation, each once for every structure. Assumes nothing.
+-- Completeness, special soundness and simulation of document 01's rounds and simulator, each once for every structure. Subtraction is met in two ways only:
+-- a - b = r from b + r = a (`sub-of`), and back (`of-sub`); what is left are sums, which `simp` sorts. Assumes nothing.
 use Prim.Native.Nat.{ℕ, zero, suc, _≤_}
 use mathlib.Core.Path.{_≡_, refl, sym, ap, ap₂, _∙_}
 use mathlib.Core.Bool.{Bool, true, false, cond}
 use native.Mathlib.Omega.{arith}
 use lib.Dec.{eqb}
-use Rattle.protocol.specs.Structure.{AbelianGroup, QuadraticOps, QuadraticMap}
-use Rattle.protocol.specs.Protocols.{Vectors, AreElements, r1Of, t1Of, e1Of, masked, t0Of, e0Of, unmasked, cardThree, OpensThree, AgreeThree}
+use Rattle.protocol.specs.Structure.{QuadraticOps, QuadraticMap}
+use Rattle.protocol.specs.Protocols.{AreElements, r1Of, t1Of, e1Of, masked, t0Of, e0Of, unmasked, cardThree, OpensThree, AgreeThree}
 use Rattle.protocol.specs.Protocols.{t1By, e1By, t0By, e0By, unmaskedBy, cardFive, OpensFive, AgreeFive, simulatedE1, simulatedMask, simulated}
 use Rattle.protocol.proofs.Groups.{add-left-comm, sub-of, of-sub, sub-sub, sub-two, of-sub-two, same-difference}
 
@@ -103,12 +104,13 @@ module _ {X Y S : Type 0} {o : QuadraticOps X Y S} {IsX : X → Type 0} {IsY : Y
       let p = mulY α (subY v (F r1)) in
       let hp : p ≡ addY (addY m e1) (G t1 r1) = of-sub (k .groupY) p _ _ (k .mulY-is α _) (of-sub (k .groupY) _ e1 m (k .groupY .sub-is _ _) em) in
       let hf : mulY α (F r0) ≡ addY e0 e1 = of-sub (k .groupY) _ e1 e0 (k .mulY-is α _) ee in
-      let hg : mulY α (G r0 r1) ≡ addY (G t0 r1) (G t1 r1) = sym (k .G-mul α r0 r1) ∙ ap (λ (x : X). G x r1) (of-sub (k .groupX) _ t1 t0 (k .mulX-is α r0) et) ∙ k .G-add t0 t1 r1 in
+      let hr : mulX α r0 ≡ addX t0 t1 = of-sub (k .groupX) _ t1 t0 (k .mulX-is α r0) et in
+      let hg : mulY α (G r0 r1) ≡ addY (G t0 r1) (G t1 r1) = sym (k .G-mul α r0 r1) ∙ ap (λ (x : X). G x r1) hr ∙ k .G-add t0 t1 r1 in
       simp (k .mul-add α (F r0), hp, hf, hg, k .groupY .add-assoc, k .groupY .add-comm, add-left-comm (k .groupY))
 
-  -- Special soundness: with two different α, replies to both challenges each whose openings agree give a solution of F(s) = v.
-  pub sound-five : (v : Y) (α : S) (t1 : X) (e1 : Y) (r0 r1 : X) (α′ : S) (t1′ : X) (e1′ : Y) (r0′ r1′ : X) → IsY v → IsScalar α → IsScalar α′ → (α ≡ α′ → ⊥) →
-      AgreeFive o v α t1 e1 r0 r1 α′ t1′ e1′ r0′ r1′ → F (addX r0 r1) ≡ v
+  -- Special soundness: replies to both challenges under each of two different α, whose openings agree, give a solution of F(s) = v.
+  pub sound-five : (v : Y) (α : S) (t1 : X) (e1 : Y) (r0 r1 : X) (α′ : S) (t1′ : X) (e1′ : Y) (r0′ r1′ : X) →
+      IsY v → IsScalar α → IsScalar α′ → (α ≡ α′ → ⊥) → AgreeFive o v α t1 e1 r0 r1 α′ t1′ e1′ r0′ r1′ → F (addX r0 r1) ≡ v
   sound-five v α t1 e1 r0 r1 α′ t1′ e1′ r0′ r1′ hv ha ha′ differ a =
       let p = subY v (F r1) in
       let z = addY (F r0) (G r0 r1) in
@@ -129,11 +131,13 @@ module _ {X Y S : Type 0} {o : QuadraticOps X Y S} {IsX : X → Type 0} {IsY : Y
   simulates zero h v s′ r0 t0 e0 hv hs hr ht he challenge differ =
       let r1 = r1Of o s′ r0 in
       let d = subY v (F s′) in
-      let sorted : addY (F r1) (addY (addY d (F r0)) (G r0 r1)) ≡ addY d (addY (F r1) (addY (F r0) (G r0 r1))) = simp (k .groupY .add-assoc, add-left-comm (k .groupY)) in
+      let g = G r0 r1 in
+      let sorted : addY (F r1) (addY (addY d (F r0)) g) ≡ addY d (addY (F r1) (addY (F r0) g)) = simp (k .groupY .add-assoc, add-left-comm (k .groupY)) in
+      let whole : addY (F r1) (addY (addY d (F r0)) g) ≡ v = sorted ∙ ap (addY d) (sym (F-split s′ r0 hs)) ∙ k .groupY .sub-add v (F s′) hv in
       record {
         zero-t = λ c. absurd (differ c);
         zero-e = λ c. absurd (differ c);
-        one = λ c. opened-three v (addY d (F r0)) r0 t0 r1 e0 hr (k .groupY .add-is d _) (sorted ∙ ap (addY d) (sym (F-split s′ r0 hs)) ∙ k .groupY .sub-add v (F s′) hv);
+        one = λ c. opened-three v (addY d (F r0)) r0 t0 r1 e0 hr (k .groupY .add-is d _) whole;
         two = λ c. refl;
       }
   simulates (suc zero) h v s′ r0 t0 e0 hv hs hr ht he challenge differ =
@@ -169,7 +173,8 @@ module _ {X Y S : Type 0} {o : QuadraticOps X Y S} {IsX : X → Type 0} {IsY : Y
   unfolding cardFive r1Of t1By e1By masked
   are-elements-five α s r0 t0 e0 hr ht he = formed s (mulX α r0) r0 t0 e0 _ _ hr ht he (k .groupY .sub-is _ _) (k .groupY .add-is _ _)
 
-  pub are-elements-simulated : (guess : ℕ) (v : Y) (s′ r0 t0 : X) (e0 : Y) → IsX r0 → IsX t0 → IsY e0 → AreElements IsX IsY (simulated o guess v s′ r0 t0 e0)
+  pub are-elements-simulated : (guess : ℕ) (v : Y) (s′ r0 t0 : X) (e0 : Y) → IsX r0 → IsX t0 → IsY e0 →
+      AreElements IsX IsY (simulated o guess v s′ r0 t0 e0)
   unfolding simulated simulatedE1 simulatedMask r1Of t1Of e1Of masked unmasked
   are-elements-simulated guess v s′ r0 t0 e0 hr ht he =
       formed s′ r0 r0 t0 e0 _ _ hr ht he (either-is IsY (eqb guess 0) _ _ (k .groupY .sub-is _ _) (k .groupY .sub-is _ _))

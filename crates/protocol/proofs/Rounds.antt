@@ -1,4 +1,4 @@
--- The three properties of both protocols at the lists that the code computes, for every system that is not refused. Assumes nothing.
+-- The three properties of document 01's rounds and simulator at the lists that the code computes, for every system that is not refused. Assumes nothing.
 use Prim.Native.Nat.{ℕ, _≤_}
 use mathlib.Core.Path.{_≡_}
 use mathlib.Core.List.{List}
@@ -35,7 +35,8 @@ module _ (b : List ℕ) (good : systemRefusal b ≡ 0) where
   completeness-five = complete-five quadratic-map
 
   -- Special soundness, five passes: s = r0 + r1.
-  pub soundness-five : (v : List ℕ) (α : ℕ) (t1 e1 r0 r1 : List ℕ) (α′ : ℕ) (t1′ e1′ r0′ r1′ : List ℕ) → IsY b v → IsScalar b α → IsScalar b α′ → (α ≡ α′ → ⊥) →
+  pub soundness-five : (v : List ℕ) (α : ℕ) (t1 e1 r0 r1 : List ℕ) (α′ : ℕ) (t1′ e1′ r0′ r1′ : List ℕ) →
+      IsY b v → IsScalar b α → IsScalar b α′ → (α ≡ α′ → ⊥) →
       AgreeFive (mapOf b) v α t1 e1 r0 r1 α′ t1′ e1′ r0′ r1′ → F b (addV (opsOf b) (nOf b) r0 r1) ≡ v
   unfolding mapOf
   soundness-five = sound-five quadratic-map

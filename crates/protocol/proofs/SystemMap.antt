@@ -1,6 +1,6 @@
 -- The structure of a system's bytes: vectors of n and of m elements are groups, and a system of at most 96 unknowns is a quadratic map. Assumes nothing.
 use Prim.Native.Nat.{ℕ, _≤_, _<_}
-use mathlib.Core.Path.{_≡_, sym, ap, ap₂, _∙_}
+use mathlib.Core.Path.{_≡_, sym, ap, _∙_}
 use mathlib.Core.List.{List}
 use native.Mathlib.Nat.{lt-of-not-le}
 use native.Mathlib.Decide.{decLe}
@@ -12,7 +12,7 @@ use Rattle.field.specs.Vector.{vector, IsVector, addV, subV, mulV}
 use Rattle.field.proofs.Fields.{field}
 use Rattle.field.proofs.Sums.{add-mul, sub-of}
 use Rattle.field.proofs.Vectors.{vector-at, vector-beyond, vector-cong}
-use Rattle.system.specs.System.{qOf, nOf, mOf, opsOf, quadratic, linear, F, G}
+use Rattle.system.specs.System.{qOf, nOf, mOf, opsOf, quadratic, linear, F}
 use Rattle.evaluation.proofs.Forms.{polynomial-below}
 use Rattle.evaluation.proofs.Laws.{F-add, G-add-left, G-mul}
 use Rattle.protocol.specs.Structure.{AbelianGroup, QuadraticMap}
@@ -30,7 +30,8 @@ module _ (o : Ops) (k : Field o) where
   sub-nonzero : (a b : ℕ) → a < size → b < size → (a ≡ b → ⊥) → sub a b ≡ 0 → ⊥
   sub-nonzero a b ha hb differ e = differ (sym (k .sub-add a b ha) ∙ ap (λ (t : ℕ). add t b) e ∙ k .zero-add b hb)
 
-  cancel-difference : (a b c d : ℕ) → a < size → b < size → (a ≡ b → ⊥) → c < size → d < size → sub (mul a c) (mul b c) ≡ sub (mul a d) (mul b d) → c ≡ d
+  cancel-difference : (a b c d : ℕ) → a < size → b < size → (a ≡ b → ⊥) → c < size → d < size →
+      sub (mul a c) (mul b c) ≡ sub (mul a d) (mul b d) → c ≡ d
   cancel-difference a b c d ha hb differ hc hd e =
       k .mul-cancel (sub a b) c d (k .sub-below a b) hc hd (sub-nonzero a b ha hb differ) (sym (mul-sub a b c ha) ∙ e ∙ mul-sub a b d ha)
 
