@@ -1,1 +1,4 @@
 pub mod Groups
+pub mod Properties
+pub mod Rounds
+pub mod SystemMap

@@ -16,6 +16,16 @@ pub record Vectors (X Y : Type 0) : Type 0 where
   pub e1 : Y
   pub mask : Y
 
+-- each of them is an element
+pub record AreElements {X Y : Type 0} (IsX : X → Type 0) (IsY : Y → Type 0) (w : Vectors X Y) : Type 0 where
+  pub r0-is : IsX (w .r0)
+  pub r1-is : IsX (w .r1)
+  pub t0-is : IsX (w .t0)
+  pub t1-is : IsX (w .t1)
+  pub e0-is : IsY (w .e0)
+  pub e1-is : IsY (w .e1)
+  pub mask-is : IsY (w .mask)
+
 module _ {X Y S : Type 0} (o : QuadraticOps X Y S) where
   open QuadraticOps o using (addX, subX, mulX, addY, subY, mulY, F, G)
 
@@ -37,10 +47,11 @@ module _ {X Y S : Type 0} (o : QuadraticOps X Y S) where
   unfoldable pub masked : X → X → Y → Y
   masked t0 r1 e0 = addY (G t0 r1) e0
 
-  -- "0: .. Opens c1 with (r0 - t1, F(r0) - e1)"
+  -- "0: .. Opens c1 with (r0 - t1, F(r0) - e1)": its first vector
   unfoldable pub t0Of : X → X → X
   t0Of r0 t1 = subX r0 t1
 
+  -- and its second
   unfoldable pub e0Of : X → Y → Y
   e0Of r0 e1 = subY (F r0) e1
 
@@ -48,6 +59,7 @@ module _ {X Y S : Type 0} (o : QuadraticOps X Y S) where
   unfoldable pub unmasked : Y → X → X → Y → Y
   unmasked v r1 t1 e1 = subY (subY (subY v (F r1)) (G t1 r1)) e1
 
+  -- "Lent .. r0 (n), t0 (n), e0 (m) .. Then r1 = s - r0, t1 = r0 - t0, e1 = F(r0) - e0." and c0's second vector
   unfoldable pub cardThree : X → X → X → Y → Vectors X Y
   cardThree s r0 t0 e0 =
       let r1 = r1Of s r0 in
@@ -72,17 +84,19 @@ module _ {X Y S : Type 0} (o : QuadraticOps X Y S) where
 
   -- ---- five passes
 
-  -- "t1 = αr0 - t0, then e1 = αF(r0) - e0"
+  -- "The card sends t1 = αr0 - t0"
   unfoldable pub t1By : S → X → X → X
   t1By α r0 t0 = subX (mulX α r0) t0
 
+  -- "then e1 = αF(r0) - e0"
   unfoldable pub e1By : S → X → Y → Y
   e1By α r0 e0 = subY (mulY α (F r0)) e0
 
-  -- "Challenge 0: .. opens c0 with (r0, αr0 - t1, αF(r0) - e1)"
+  -- "Challenge 0: .. opens c0 with (r0, αr0 - t1, αF(r0) - e1)": its second vector
   unfoldable pub t0By : S → X → X → X
   t0By α r0 t1 = subX (mulX α r0) t1
 
+  -- and its third
   unfoldable pub e0By : S → X → Y → Y
   e0By α r0 e1 = subY (mulY α (F r0)) e1
 
@@ -90,6 +104,7 @@ module _ {X Y S : Type 0} (o : QuadraticOps X Y S) where
   unfoldable pub unmaskedBy : S → Y → X → X → Y → Y
   unmaskedBy α v r1 t1 e1 = subY (subY (mulY α (subY v (F r1))) (G t1 r1)) e1
 
+  -- "Lent .. r0, t0, e0 .. r1 = s - r0", t1 and e1 for α, and c1's second vector
   unfoldable pub cardFive : S → X → X → X → Y → Vectors X Y
   cardFive α s r0 t0 e0 =
       let r1 = r1Of s r0 in

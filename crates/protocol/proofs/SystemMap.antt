@@ -1,0 +1,102 @@
+-- The structure of a system's bytes: vectors of n and of m elements are groups, and a system of at most 96 unknowns is a quadratic map. Assumes nothing.
+use Prim.Native.Nat.{ℕ, _≤_, _<_}
+use mathlib.Core.Path.{_≡_, sym, ap, _∙_}
+use mathlib.Core.List.{List}
+use native.Mathlib.Nat.{lt-of-not-le}
+use native.Mathlib.Decide.{decLe}
+use Rattle.slices.specs.Slices.{_!_}
+use Rattle.slices.proofs.Tabulate.{tabulate-beyond}
+use Rattle.field.specs.Ops.{Ops}
+use Rattle.field.specs.Field.{Field}
+use Rattle.field.specs.Vector.{vector, IsVector, addV, subV, mulV}
+use Rattle.field.proofs.Fields.{field}
+use Rattle.field.proofs.Sums.{add-mul, sub-of}
+use Rattle.field.proofs.Vectors.{vector-at, vector-beyond, vector-cong}
+use Rattle.system.specs.System.{qOf, nOf, mOf, opsOf, quadratic, linear, F}
+use Rattle.evaluation.proofs.Forms.{polynomial-below}
+use Rattle.evaluation.proofs.Laws.{F-add, G-add-left, G-mul}
+use Rattle.protocol.specs.Structure.{AbelianGroup, QuadraticMap}
+use Rattle.protocol.specs.Rounds.{mapOf, IsX, IsY, IsScalar}
+
+module _ (o : Ops) (k : Field o) where
+  open Ops o using (size, add, sub, mul)
+
+  -- ---- elements
+
+  mul-sub : (a b c : ℕ) → a < size → sub (mul a c) (mul b c) ≡ mul (sub a b) c
+  mul-sub a b c h =
+      sub-of o k _ _ _ (k .mul-below _ _) (k .add-comm _ _ ∙ sym (add-mul o k (sub a b) b c) ∙ ap (λ (t : ℕ). mul t c) (k .sub-add a b h))
+
+  sub-nonzero : (a b : ℕ) → a < size → b < size → (a ≡ b → ⊥) → sub a b ≡ 0 → ⊥
+  sub-nonzero a b ha hb differ e = differ (sym (k .sub-add a b ha) ∙ ap (λ (t : ℕ). add t b) e ∙ k .zero-add b hb)
+
+  cancel-difference : (a b c d : ℕ) → a < size → b < size → (a ≡ b → ⊥) → c < size → d < size →
+      sub (mul a c) (mul b c) ≡ sub (mul a d) (mul b d) → c ≡ d
+  cancel-difference a b c d ha hb differ hc hd e =
+      k .mul-cancel (sub a b) c d (k .sub-below a b) hc hd (sub-nonzero a b ha hb differ) (sym (mul-sub a b c ha) ∙ e ∙ mul-sub a b d ha)
+
+  -- ---- vectors of n elements
+
+  module _ (n : ℕ) where
+    pub is-vector : (f : ℕ → ℕ) → ((i : ℕ) → i < n → f i < size) → IsVector o n (vector n f)
+    unfolding vector
+    is-vector f below =
+        record {
+          held = vector-cong n f _ (λ i h l. sym (vector-at n f i h l));
+          elements = λ i.
+              elim (decLe n i) [
+                | yes h ↦ rw (vector-beyond n f i h) (k .zero-below)
+                | no h ↦
+                    elim (decLe 96 i) [
+                      | yes l ↦ rw (tabulate-beyond 96 _ i l) (k .zero-below)
+                      | no l ↦ rw (vector-at n f i (lt-of-not-le h) (lt-of-not-le l)) (below i (lt-of-not-le h))
+                    ]
+              ];
+        }
+
+    -- vectors with the same elements are equal
+    same-vector : (x y : List ℕ) → IsVector o n x → IsVector o n y → ((i : ℕ) → i < n → i < 96 → x ! i ≡ y ! i) → x ≡ y
+    same-vector x y hx hy same = hx .held ∙ vector-cong n _ _ same ∙ sym (hy .held)
+
+    pub vectors : AbelianGroup (List ℕ) (IsVector o n) (addV o n) (subV o n)
+    unfolding addV subV
+    vectors =
+        record {
+          add-is = λ x y. is-vector _ (λ i h. k .add-below _ _);
+          sub-is = λ x y. is-vector _ (λ i h. k .sub-below _ _);
+          add-assoc = λ x y z. vector-cong n _ _ (λ i h l. simp vector-at (k .add-assoc (x ! i) (y ! i) (z ! i)));
+          add-comm = λ x y. vector-cong n _ _ (λ i h l. k .add-comm (x ! i) (y ! i));
+          sub-add = λ x y hx. vector-cong n _ _ (λ i h l. simp vector-at (k .sub-add (x ! i) (y ! i) (hx .elements i))) ∙ sym (hx .held);
+        }
+
+    mulV-add : (a : ℕ) (x y : List ℕ) → mulV o n a (addV o n x y) ≡ addV o n (mulV o n a x) (mulV o n a y)
+    unfolding mulV addV
+    mulV-add a x y = vector-cong n _ _ (λ i h l. simp vector-at (k .mul-add a (x ! i) (y ! i)))
+
+    mulV-is : (a : ℕ) (x : List ℕ) → IsVector o n (mulV o n a x)
+    unfolding mulV
+    mulV-is a x = is-vector _ (λ i h. k .mul-below _ _)
+
+    cancelV : (a b : ℕ) → a < size → b < size → (a ≡ b → ⊥) → (x y : List ℕ) → IsVector o n x → IsVector o n y →
+        subV o n (mulV o n a x) (mulV o n b x) ≡ subV o n (mulV o n a y) (mulV o n b y) → x ≡ y
+    unfolding subV mulV
+    cancelV a b ha hb differ x y hx hy e =
+        same-vector x y hx hy (λ i h l.
+        cancel-difference a b (x ! i) (y ! i) ha hb differ (hx .elements i) (hy .elements i) (simp vector-at at (ap (λ (t : List ℕ). t ! i) e)))
+
+-- a system of at most 96 unknowns is a quadratic map
+pub system-map : (b : List ℕ) → nOf b ≤ 96 → QuadraticMap (mapOf b) (IsX b) (IsY b) (IsScalar b)
+unfolding mapOf F
+system-map b small =
+    record {
+      groupX = vectors (opsOf b) (field (qOf b)) (nOf b);
+      groupY = vectors (opsOf b) (field (qOf b)) (mOf b);
+      mulX-is = mulV-is (opsOf b) (field (qOf b)) (nOf b);
+      mulY-is = mulV-is (opsOf b) (field (qOf b)) (mOf b);
+      F-is = λ x. is-vector (opsOf b) (field (qOf b)) (mOf b) _ (λ l h. polynomial-below (opsOf b) (field (qOf b)) (nOf b) (quadratic b l) (linear b l) _);
+      F-add = F-add b small;
+      G-add = G-add-left b small;
+      G-mul = G-mul b small;
+      mul-add = mulV-add (opsOf b) (field (qOf b)) (mOf b);
+      cancel = cancelV (opsOf b) (field (qOf b)) (mOf b);
+    }
