@@ -76,6 +76,13 @@ pub fn string(
     append(append(append(start(d, k, rho), a, na), b, nb), c, nc)
 }
 
+// The same with two vectors.
+pub fn string_two(d: Domain, k: u8, rho: [u8; 32], a: [u8; 96], na: u8, b: [u8; 96], nb: u8) -> Text
+    ensures { λ r. ⌜ (r ≡ text (hashedString d k rho (take na a ++ take nb b))) × (r .len ≤ 322) ⌝ }
+{
+    append(append(start(d, k, rho), a, na), b, nb)
+}
+
 // The digest of a string.
 pub fn digest(t: Text) -> [u8; 32]
     requires { ⌜ t .len ≤ 322 ⌝ }
@@ -101,4 +108,19 @@ pub fn commit(
     ensures { λ r. ⌜ r ≡ Com d k rho (take na a ++ (take nb b ++ take nc c)) ⌝ }
 {
     digest(string(d, k, rho, a, na, b, nb, c, nc))
+}
+
+// The same with two vectors.
+pub fn commit_two(
+    d: Domain,
+    k: u8,
+    rho: [u8; 32],
+    a: [u8; 96],
+    na: u8,
+    b: [u8; 96],
+    nb: u8,
+) -> [u8; 32]
+    ensures { λ r. ⌜ r ≡ Com d k rho (take na a ++ take nb b) ⌝ }
+{
+    digest(string_two(d, k, rho, a, na, b, nb))
 }

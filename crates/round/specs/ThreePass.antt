@@ -15,6 +15,7 @@ use Rattle.protocol.specs.Structure.{QuadraticOps}
 use Rattle.protocol.specs.Protocols as P
 use Rattle.protocol.specs.Protocols.{t0Of, e0Of, unmasked, masked}
 use Rattle.protocol.specs.Rounds.{mapOf}
+use Rattle.round.specs.Pieces.{commitment}
 use Rattle.round.specs.declared.pieces.Rhos.{Rhos}
 use Rattle.round.specs.declared.pieces.Commitments.{Commitments}
 use Rattle.round.specs.declared.pieces.ReplyThree.{ReplyThree}
@@ -45,18 +46,24 @@ openedFirst q n challenge x y = cond (eqb challenge 0) (subV (ops q) n x y) x
 unfoldable pub openedSecond : QuadraticOps (List ℕ) (List ℕ) ℕ → List ℕ → ℕ → List ℕ → List ℕ → List ℕ → List ℕ
 openedSecond o v challenge x y z = cond (eqb challenge 0) (e0Of o x z) (cond (eqb challenge 1) (unmasked o v x y z) (masked o y x z))
 
+-- the numbers of the commitments that a reply opens
+unfoldable pub firstNumber : ℕ → ℕ
+firstNumber challenge = cond (eqb challenge 0) 1 0
+
+unfoldable pub secondNumber : ℕ → ℕ
+secondNumber challenge = cond (eqb challenge 0) 2 (cond (eqb challenge 1) 2 1)
+
 unfoldable pub firstString : List ℕ → List ℕ → ℕ → ReplyThree → List ℕ
 firstString b v challenge r =
-    hashedString three (cond (eqb challenge 0) 1 0) (r .first)
+    hashedString three (firstNumber challenge) (r .first)
     (take (nOf b) (openedFirst (qOf b) (nOf b) challenge (r .x) (r .y)) ++ take (mOf b) (openedSecond (mapOf b) v challenge (r .x) (r .y) (r .z)))
 
 -- the second opening: "c2 with (t1, e1)", the same, "c1 with (t0, e0)"
 unfoldable pub secondString : ℕ → ℕ → ℕ → ReplyThree → List ℕ
-secondString n m challenge r =
-    hashedString three (cond (eqb challenge 0) 2 (cond (eqb challenge 1) 2 1)) (r .second) (take n (r .y) ++ take m (r .z))
+secondString n m challenge r = hashedString three (secondNumber challenge) (r .second) (take n (r .y) ++ take m (r .z))
 
 -- "A round is accepted exactly when both openings hash to their commitments."
 unfoldable pub acceptsThree : List ℕ → List ℕ → Commitments → ℕ → ReplyThree → Bool
 acceptsThree b v c challenge r =
-    same (sha256 (firstString b v challenge r)) (cond (eqb challenge 0) (c .c1) (c .c0)) &&
-    same (sha256 (secondString (nOf b) (mOf b) challenge r)) (cond (eqb challenge 0) (c .c2) (cond (eqb challenge 1) (c .c2) (c .c1)))
+    same (sha256 (firstString b v challenge r)) (commitment c (firstNumber challenge)) &&
+    same (sha256 (secondString (nOf b) (mOf b) challenge r)) (commitment c (secondNumber challenge))

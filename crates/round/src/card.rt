@@ -7,7 +7,6 @@ use field::add_vectors;
 use field::mul_vector;
 use field::sub_vectors;
 use slices::byte_at;
-
 ghost use mathlib.Core.Path.{_≡_};
 ghost use Rattle.system.specs.System.{systemRefusal};
 ghost use Rattle.protocol.specs.Protocols.{cardThree, t1By, e1By};

@@ -6,14 +6,15 @@ use crate::pieces::Rhos;
 use commitment::Domain;
 use commitment::Text;
 use commitment::commit;
+use commitment::commit_two;
 use commitment::string;
+use commitment::string_two;
 use evaluation::f;
 use evaluation::g;
 use field::add_vectors;
 use field::mul_vector;
 use field::sub_vectors;
 use slices::byte_at;
-
 ghost use mathlib.Core.Path.{_≡_};
 ghost use Prim.Native.Nat.{_≤_};
 ghost use Rattle.system.specs.System.{systemRefusal};
@@ -23,7 +24,14 @@ ghost use Rattle.protocol.specs.Rounds.{mapOf};
 ghost use Rattle.round.specs.FivePass.{commitmentsFive, replyFive, openingFive};
 
 // c0 and c1.
-pub fn commitments_five(system: &[u8], s: [u8; 96], r0: [u8; 96], t0: [u8; 96], e0: [u8; 96], rhos: Rhos) -> Commitments
+pub fn commitments_five(
+    system: &[u8],
+    s: [u8; 96],
+    r0: [u8; 96],
+    t0: [u8; 96],
+    e0: [u8; 96],
+    rhos: Rhos,
+) -> Commitments
     requires { ⌜ systemRefusal (now system) ≡ 0 ⌝ }
     ensures { λ r. ⌜ r ≡ commitmentsFive (now (system .entry)) s r0 t0 e0 rhos ⌝ }
 {
@@ -36,7 +44,7 @@ pub fn commitments_five(system: &[u8], s: [u8; 96], r0: [u8; 96], t0: [u8; 96], 
     let mask = add_vectors(q, m, g(system, t0, r1), e0);
     Commitments {
         c0: commit(Domain { scheme: 5 }, 0, rho0, r0, n, t0, n, e0, m),
-        c1: commit(Domain { scheme: 5 }, 1, rho1, r1, n, mask, m, [0; 96], 0),
+        c1: commit_two(Domain { scheme: 5 }, 1, rho1, r1, n, mask, m),
         c2: [0; 32],
     }
 }
@@ -49,12 +57,22 @@ pub fn reply_five(q: u8, n: u8, s: [u8; 96], r0: [u8; 96], rhos: Rhos, challenge
     let rho1 = rhos.rho1;
     match challenge {
         0 => ReplyFive { x: r0, rho: rho0 },
-        _ => ReplyFive { x: sub_vectors(q, n, s, r0), rho: rho1 },
+        _ => ReplyFive {
+            x: sub_vectors(q, n, s, r0),
+            rho: rho1,
+        },
     }
 }
 
 // The second vector that a reply to challenge 1 opens.
-fn unmasked_by(system: &[u8], alpha: u8, v: [u8; 96], x: [u8; 96], t1: [u8; 96], e1: [u8; 96]) -> [u8; 96]
+fn unmasked_by(
+    system: &[u8],
+    alpha: u8,
+    v: [u8; 96],
+    x: [u8; 96],
+    t1: [u8; 96],
+    e1: [u8; 96],
+) -> [u8; 96]
     requires { ⌜ systemRefusal (now system) ≡ 0 ⌝ }
     ensures { λ r. ⌜ r ≡ unmaskedBy (mapOf (now (system .entry))) alpha v x t1 e1 ⌝ }
 {
@@ -65,7 +83,14 @@ fn unmasked_by(system: &[u8], alpha: u8, v: [u8; 96], x: [u8; 96], t1: [u8; 96],
 }
 
 // The string of the opening: of c0 for challenge 0, else of c1.
-pub fn opening_five(system: &[u8], alpha: u8, v: [u8; 96], sent: Middle, challenge: u8, reply: ReplyFive) -> Text
+pub fn opening_five(
+    system: &[u8],
+    alpha: u8,
+    v: [u8; 96],
+    sent: Middle,
+    challenge: u8,
+    reply: ReplyFive,
+) -> Text
     requires { ⌜ systemRefusal (now system) ≡ 0 ⌝ }
     ensures { λ r. ⌜ (r ≡ text (openingFive (now (system .entry)) alpha v sent challenge reply)) × (r .len ≤ 322) ⌝ }
 {
@@ -84,7 +109,7 @@ pub fn opening_five(system: &[u8], alpha: u8, v: [u8; 96], sent: Middle, challen
         }
         _ => {
             let mask = unmasked_by(system, alpha, v, x, t1, e1);
-            string(Domain { scheme: 5 }, 1, rho, x, n, mask, m, [0; 96], 0)
+            string_two(Domain { scheme: 5 }, 1, rho, x, n, mask, m)
         }
     }
 }

@@ -5,31 +5,20 @@ use crate::pieces::Rhos;
 use crate::pieces::Vectors;
 use commitment::Domain;
 use commitment::Text;
-use commitment::commit;
-use commitment::string;
+use commitment::commit_two;
+use commitment::string_two;
 use evaluation::f;
 use evaluation::g;
 use field::add_vectors;
 use field::sub_vectors;
 use slices::byte_at;
-
 ghost use mathlib.Core.Path.{_≡_};
 ghost use Prim.Native.Nat.{_≤_};
-ghost use mathlib.Core.List.{_++_};
-ghost use lib.ListN.{take};
-ghost use Rattle.system.specs.System.{nOf, mOf, systemRefusal};
-ghost use Rattle.commitment.specs.Commitment.{Com};
+ghost use Rattle.system.specs.System.{systemRefusal};
 ghost use Rattle.commitment.specs.Held.{text};
 ghost use Rattle.protocol.specs.Rounds.{mapOf};
 ghost use Rattle.round.specs.Pieces.{vectorsOf};
-ghost use Rattle.round.specs.ThreePass.{three, commitmentsThree, replyThree, openedFirst, openedSecond, firstString, secondString};
-
-// Commitment k to a vector of n elements and one of m.
-fn commit_pair(k: u8, rho: [u8; 32], a: [u8; 96], n: u8, b: [u8; 96], m: u8) -> [u8; 32]
-    ensures { λ r. ⌜ r ≡ Com three k rho (take n a ++ take m b) ⌝ }
-{
-    commit(Domain { scheme: 3 }, k, rho, a, n, b, m, [0; 96], 0)
-}
+ghost use Rattle.round.specs.ThreePass.{commitmentsThree, replyThree, openedFirst, openedSecond, firstNumber, secondNumber, firstString, secondString};
 
 // c0, c1 and c2.
 pub fn commitments_three(n: u8, m: u8, w: Vectors, rhos: Rhos) -> Commitments
@@ -45,9 +34,9 @@ pub fn commitments_three(n: u8, m: u8, w: Vectors, rhos: Rhos) -> Commitments
     let rho1 = rhos.rho1;
     let rho2 = rhos.rho2;
     Commitments {
-        c0: commit_pair(0, rho0, r1, n, mask, m),
-        c1: commit_pair(1, rho1, t0, n, e0, m),
-        c2: commit_pair(2, rho2, t1, n, e1, m),
+        c0: commit_two(Domain { scheme: 3 }, 0, rho0, r1, n, mask, m),
+        c1: commit_two(Domain { scheme: 3 }, 1, rho1, t0, n, e0, m),
+        c2: commit_two(Domain { scheme: 3 }, 2, rho2, t1, n, e1, m),
     }
 }
 
@@ -65,9 +54,27 @@ pub fn reply_three(w: Vectors, rhos: Rhos, challenge: u8) -> ReplyThree
     let rho1 = rhos.rho1;
     let rho2 = rhos.rho2;
     match challenge {
-        0 => ReplyThree { x: r0, y: t1, z: e1, first: rho1, second: rho2 },
-        1 => ReplyThree { x: r1, y: t1, z: e1, first: rho0, second: rho2 },
-        _ => ReplyThree { x: r1, y: t0, z: e0, first: rho0, second: rho1 },
+        0 => ReplyThree {
+            x: r0,
+            y: t1,
+            z: e1,
+            first: rho1,
+            second: rho2,
+        },
+        1 => ReplyThree {
+            x: r1,
+            y: t1,
+            z: e1,
+            first: rho0,
+            second: rho2,
+        },
+        _ => ReplyThree {
+            x: r1,
+            y: t0,
+            z: e0,
+            first: rho0,
+            second: rho1,
+        },
     }
 }
 
@@ -82,7 +89,14 @@ fn opened_first(q: u8, n: u8, challenge: u8, x: [u8; 96], y: [u8; 96]) -> [u8; 9
 }
 
 // The second vector of the first opening.
-fn opened_second(system: &[u8], v: [u8; 96], challenge: u8, x: [u8; 96], y: [u8; 96], z: [u8; 96]) -> [u8; 96]
+fn opened_second(
+    system: &[u8],
+    v: [u8; 96],
+    challenge: u8,
+    x: [u8; 96],
+    y: [u8; 96],
+    z: [u8; 96],
+) -> [u8; 96]
     requires { ⌜ systemRefusal (now system) ≡ 0 ⌝ }
     ensures { λ r. ⌜ r ≡ openedSecond (mapOf (now (system .entry))) v challenge x y z ⌝ }
 {
@@ -90,8 +104,33 @@ fn opened_second(system: &[u8], v: [u8; 96], challenge: u8, x: [u8; 96], y: [u8;
     let m = byte_at(system, 2);
     match challenge {
         0 => sub_vectors(q, m, f(system, x), z),
-        1 => sub_vectors(q, m, sub_vectors(q, m, sub_vectors(q, m, v, f(system, x)), g(system, y, x)), z),
+        1 => sub_vectors(
+            q,
+            m,
+            sub_vectors(q, m, sub_vectors(q, m, v, f(system, x)), g(system, y, x)),
+            z,
+        ),
         _ => add_vectors(q, m, g(system, y, x), z),
+    }
+}
+
+// The numbers of the commitments that a reply opens.
+pub fn first_number(challenge: u8) -> u8
+    ensures { λ r. ⌜ r ≡ firstNumber challenge ⌝ }
+{
+    match challenge {
+        0 => 1,
+        _ => 0,
+    }
+}
+
+pub fn second_number(challenge: u8) -> u8
+    ensures { λ r. ⌜ r ≡ secondNumber challenge ⌝ }
+{
+    match challenge {
+        0 => 2,
+        1 => 2,
+        _ => 1,
     }
 }
 
@@ -109,8 +148,8 @@ pub fn first_opening(system: &[u8], v: [u8; 96], challenge: u8, reply: ReplyThre
     let rho = reply.first;
     let a = opened_first(q, n, challenge, x, y);
     let b = opened_second(system, v, challenge, x, y, z);
-    let k = if challenge == 0 { 1 } else { 0 };
-    string(Domain { scheme: 3 }, k, rho, a, n, b, m, [0; 96], 0)
+    let k = first_number(challenge);
+    string_two(Domain { scheme: 3 }, k, rho, a, n, b, m)
 }
 
 // The string of the second opening: of c1 for challenge 2, else of c2.
@@ -120,6 +159,6 @@ pub fn second_opening(n: u8, m: u8, challenge: u8, reply: ReplyThree) -> Text
     let y = reply.y;
     let z = reply.z;
     let rho = reply.second;
-    let k = if challenge == 0 { 2 } else if challenge == 1 { 2 } else { 1 };
-    string(Domain { scheme: 3 }, k, rho, y, n, z, m, [0; 96], 0)
+    let k = second_number(challenge);
+    string_two(Domain { scheme: 3 }, k, rho, y, n, z, m)
 }

@@ -1,0 +1,19 @@
+-- Each vector behind the last. Assumes nothing.
+use mathlib.Core.Path.{_≡_, _∙_}
+use mathlib.Core.List.{append-assoc}
+use native.Mathlib.Omega.{arith}
+use Rattle.commitment.specs.Commitment.{hashedString}
+use borrow.Author.Needs.{needs}
+use Rattle.commitment.proofs.string_two.Statement.{statement}
+use Rattle.commitment.proofs.string_two.Tie as tie
+
+pub string-two-spec : {M : Type 1} → statement M
+unfolding hashedString
+string-two-spec =
+    tie.close
+    (tie.spec
+    (λ c κs. search needs)
+    (λ c κs. search needs)
+    (λ c κs. search needs)
+    (λ c.
+    (c .append2 .ensures .holds _ (c .before .append .ensures .holds _ (c .before .before .start .ensures .0)) ∙ simp append-assoc, omega arith)))
