@@ -1,4 +1,4 @@
-// The vectors of a round as the card forms them.
+// The vectors of a round as the card and the simulator form them.
 use crate::pieces::Middle;
 use crate::pieces::Vectors;
 use evaluation::f;
@@ -9,7 +9,7 @@ use field::sub_vectors;
 use slices::byte_at;
 ghost use mathlib.Core.Path.{_≡_};
 ghost use Rattle.system.specs.System.{systemRefusal};
-ghost use Rattle.protocol.specs.Protocols.{cardThree, t1By, e1By};
+ghost use Rattle.protocol.specs.Protocols.{cardThree, t1By, e1By, unmasked, simulatedE1, simulatedMask, simulated as simulatedOf};
 ghost use Rattle.protocol.specs.Rounds.{mapOf};
 ghost use Rattle.round.specs.Pieces.{vectorsOf};
 
@@ -44,5 +44,90 @@ pub fn middle(system: &[u8], alpha: u8, r0: [u8; 96], t0: [u8; 96], e0: [u8; 96]
     Middle {
         t1: sub_vectors(q, n, mul_vector(q, n, alpha, r0), t0),
         e1: sub_vectors(q, m, mul_vector(q, m, alpha, f(system, r0)), e0),
+    }
+}
+
+// v - F(r1) - G(t1,r1) - e1, with which challenge 1 opens c0.
+pub fn unmask(system: &[u8], v: [u8; 96], r1: [u8; 96], t1: [u8; 96], e1: [u8; 96]) -> [u8; 96]
+    requires { ⌜ systemRefusal (now system) ≡ 0 ⌝ }
+    ensures { λ r. ⌜ r ≡ unmasked (mapOf (now (system .entry))) v r1 t1 e1 ⌝ }
+{
+    let q = byte_at(system, 0);
+    let m = byte_at(system, 2);
+    let left = sub_vectors(q, m, v, f(system, r1));
+    sub_vectors(q, m, sub_vectors(q, m, left, g(system, t1, r1)), e1)
+}
+
+// The simulator's e1, where `guess` is the challenge to which it cannot reply.
+fn simulated_e1(
+    system: &[u8],
+    guess: u8,
+    v: [u8; 96],
+    s: [u8; 96],
+    r0: [u8; 96],
+    e0: [u8; 96],
+) -> [u8; 96]
+    requires { ⌜ systemRefusal (now system) ≡ 0 ⌝ }
+    ensures { λ r. ⌜ r ≡ simulatedE1 (mapOf (now (system .entry))) guess v s r0 e0 ⌝ }
+{
+    let q = byte_at(system, 0);
+    let m = byte_at(system, 2);
+    match guess {
+        0 => {
+            let left = sub_vectors(q, m, v, f(system, s));
+            sub_vectors(q, m, add_vectors(q, m, left, f(system, r0)), e0)
+        }
+        _ => sub_vectors(q, m, f(system, r0), e0),
+    }
+}
+
+// What the simulator commits to beside r1.
+fn simulated_mask(
+    system: &[u8],
+    guess: u8,
+    v: [u8; 96],
+    r1: [u8; 96],
+    t0: [u8; 96],
+    t1: [u8; 96],
+    e0: [u8; 96],
+    e1: [u8; 96],
+) -> [u8; 96]
+    requires { ⌜ systemRefusal (now system) ≡ 0 ⌝ }
+    ensures { λ r. ⌜ r ≡ simulatedMask (mapOf (now (system .entry))) guess v r1 t0 t1 e0 e1 ⌝ }
+{
+    let q = byte_at(system, 0);
+    let m = byte_at(system, 2);
+    match guess {
+        2 => unmask(system, v, r1, t1, e1),
+        _ => add_vectors(q, m, g(system, t0, r1), e0),
+    }
+}
+
+// The simulator's vectors, formed without the secret.
+pub fn simulated(
+    system: &[u8],
+    guess: u8,
+    v: [u8; 96],
+    s: [u8; 96],
+    r0: [u8; 96],
+    t0: [u8; 96],
+    e0: [u8; 96],
+) -> Vectors
+    requires { ⌜ systemRefusal (now system) ≡ 0 ⌝ }
+    ensures { λ r. ⌜ vectorsOf r ≡ simulatedOf (mapOf (now (system .entry))) guess v s r0 t0 e0 ⌝ }
+{
+    let q = byte_at(system, 0);
+    let n = byte_at(system, 1);
+    let r1 = sub_vectors(q, n, s, r0);
+    let t1 = sub_vectors(q, n, r0, t0);
+    let e1 = simulated_e1(system, guess, v, s, r0, e0);
+    Vectors {
+        r0: r0,
+        r1: r1,
+        t0: t0,
+        t1: t1,
+        e0: e0,
+        e1: e1,
+        mask: simulated_mask(system, guess, v, r1, t0, t1, e0, e1),
     }
 }

@@ -11,6 +11,7 @@ mod three;
 
 pub use card::card_three;
 pub use card::middle;
+pub use card::simulated;
 pub use five::commitments_five;
 pub use five::opening_five;
 pub use five::reply_five;

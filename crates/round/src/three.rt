@@ -1,4 +1,5 @@
 // Three passes: the commitments, the reply to a challenge, and the strings with which a reply opens two of them.
+use crate::card::unmask;
 use crate::pieces::Commitments;
 use crate::pieces::ReplyThree;
 use crate::pieces::Rhos;
@@ -104,12 +105,7 @@ fn opened_second(
     let m = byte_at(system, 2);
     match challenge {
         0 => sub_vectors(q, m, f(system, x), z),
-        1 => sub_vectors(
-            q,
-            m,
-            sub_vectors(q, m, sub_vectors(q, m, v, f(system, x)), g(system, y, x)),
-            z,
-        ),
+        1 => unmask(system, v, x, y, z),
         _ => add_vectors(q, m, g(system, y, x), z),
     }
 }
