@@ -1,0 +1,13 @@
+// The messages of a round as bytes, and the one judgement of a round of either scheme, for the carrier, the report and the
+// audit.
+//
+// Nothing here refuses: what is beyond the end of a message reads as zero. Whoever takes a message from outside refuses one
+// of another length first.
+mod judgement;
+mod read;
+
+pub use judgement::judge;
+pub use read::read_commitments;
+pub use read::read_middle;
+pub use read::read_reply_five;
+pub use read::read_reply_three;

@@ -1,0 +1,56 @@
+// Messages taken apart.
+use field::slot;
+use round::Commitments;
+use round::Middle;
+use round::ReplyFive;
+use round::ReplyThree;
+use slices::bytes32;
+ghost use mathlib.Core.Path.{_≡_};
+ghost use Rattle.exchange.specs.Messages.{commitmentsIn, middleIn, replyThreeIn, replyFiveIn};
+
+// Two or three commitments of 32 bytes.
+pub fn read_commitments(s: &[u8]) -> Commitments
+    ensures { λ r. ⌜ r ≡ commitmentsIn (now (s .entry)) ⌝ }
+{
+    Commitments {
+        c0: bytes32(s, 0),
+        c1: bytes32(s, 32),
+        c2: bytes32(s, 64),
+    }
+}
+
+// t1 and e1, behind α.
+pub fn read_middle(s: &[u8], n: u8, m: u8) -> Middle
+    ensures { λ r. ⌜ r ≡ middleIn n m (now (s .entry)) ⌝ }
+{
+    Middle {
+        t1: slot(s, 1, n),
+        e1: slot(s, 1 + n as usize, m),
+    }
+}
+
+// A reply of three passes.
+pub fn read_reply_three(s: &[u8], n: u8, m: u8) -> ReplyThree
+    ensures { λ r. ⌜ r ≡ replyThreeIn n m (now (s .entry)) ⌝ }
+{
+    let after_x = n as usize;
+    let after_y = after_x + n as usize;
+    let after_z = after_y + m as usize;
+    ReplyThree {
+        x: slot(s, 0, n),
+        y: slot(s, after_x, n),
+        z: slot(s, after_y, m),
+        first: bytes32(s, after_z),
+        second: bytes32(s, after_z + 32),
+    }
+}
+
+// A reply of five passes.
+pub fn read_reply_five(s: &[u8], n: u8) -> ReplyFive
+    ensures { λ r. ⌜ r ≡ replyFiveIn n (now (s .entry)) ⌝ }
+{
+    ReplyFive {
+        x: slot(s, 0, n),
+        rho: bytes32(s, n as usize),
+    }
+}
