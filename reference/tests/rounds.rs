@@ -223,8 +223,8 @@ fn changed_keys() {
     }
 }
 
-/// A changed α, t1 or e1 is rejected, but for four cases in which the opening stays the same:
-/// in challenge 0 α where r0 is zero, in challenge 1 α where v is F(r1) and t1 where G(t1,r1) stays.
+/// A changed α, t1 or e1 is rejected, but for three cases in which the opening stays the same: in
+/// challenge 0 α where r0 is zero, in challenge 1 α where v is F(r1) and t1 where G(t1,r1) stays.
 #[test]
 fn changed_middles() {
     for card in cards(Scheme::FivePass, 35) {

@@ -357,7 +357,7 @@ fn with_bad_systems(shape: Shape, instances: &[Instance]) -> Vec<Instance> {
 }
 
 /// The system with one fault of each kind.
-fn bad_systems(shape: Shape, system: &Piece) -> Vec<Piece> {
+pub fn bad_systems(shape: Shape, system: &Piece) -> Vec<Piece> {
     let pattern = [0, 1, 1];
     vec![
         Piece::literal(&[]),
