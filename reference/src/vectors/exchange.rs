@@ -97,7 +97,7 @@ impl Card {
     }
 }
 
-/// What of a judgement's inputs a byte belongs to.
+/// Which of a judgement's inputs a byte belongs to.
 #[derive(Clone, Copy, Debug, PartialEq, Eq)]
 pub enum Input {
     Commitments,
@@ -124,9 +124,9 @@ impl Span {
 
     /// Its first place, the middle one and the last, without repeats.
     pub fn edges(self) -> Vec<usize> {
-        let mut places = [0, self.length / 2, self.length - 1].map(|offset| self.start + offset);
+        let offsets = [0, self.length / 2, self.length - 1];
+        let mut places = offsets.map(|offset| self.start + offset).to_vec();
         places.sort_unstable();
-        let mut places = places.to_vec();
         places.dedup();
         places
     }
@@ -145,10 +145,8 @@ impl Judgement {
 
     /// The parts of all inputs, in their order.
     pub fn spans(&self) -> Vec<Span> {
-        let System {
-            n, ref polynomials, ..
-        } = read(&self.system);
-        let m = polynomials.len();
+        let system = read(&self.system);
+        let (n, m) = (system.n, system.m());
         let (middle, reply) = match self.scheme {
             Scheme::ThreePass => (
                 vec![],
@@ -167,6 +165,13 @@ impl Judgement {
             consecutive(Input::Key, &[(m, true)]),
         ]
         .concat()
+    }
+
+    /// A part of an input, counted from 0.
+    pub fn span(&self, input: Input, part: usize) -> Span {
+        let spans = self.spans();
+        let mut of_input = spans.iter().filter(|span| span.input == input);
+        *of_input.nth(part).expect("a part of the input")
     }
 
     /// The same with one byte changed: an element to another one, any other byte by one bit.

@@ -5,45 +5,48 @@ use super::exchange::{read, Card, Input, Judgement, Span};
 use super::honest::{group, small_card, SMALL_ALPHA};
 use super::instance::Shape;
 use super::simulation::mispredicted;
-use crate::commitment::Opening;
+use crate::commitment::{Opening, RHO};
 use crate::field::ORDERS;
 use crate::map::{evaluate, polar};
 use crate::random::Generator;
 use crate::scheme::{Scheme, SCHEMES};
+use crate::three_pass::Round;
 use crate::vector::{difference, sum};
 
 pub fn groups() -> Vec<Group> {
-    let mut groups = Vec::new();
-    for scheme in SCHEMES {
-        groups.extend(every_place(scheme));
-        groups.extend(edges(scheme));
-        if scheme == Scheme::ThreePass {
-            groups.extend(one_opening_fails());
-            groups.push(group(scheme, "both openings fail", both_openings_fail()));
-        }
-        groups.push(group(
-            scheme,
-            "reply to another challenge",
-            another_reply(scheme),
-        ));
-        groups.push(group(
-            scheme,
-            "commitments made otherwise",
-            made_otherwise(scheme),
-        ));
-    }
+    let mut groups = of_three_passes();
+    groups.extend(of_five_passes());
+    groups
+}
+
+fn of_three_passes() -> Vec<Group> {
+    let scheme = Scheme::ThreePass;
+    let mut groups = of_either(scheme);
+    groups.extend(one_opening_fails());
+    groups.push(group(scheme, "both openings fail", both_openings_fail()));
+    groups
+}
+
+fn of_five_passes() -> Vec<Group> {
     let scheme = Scheme::FivePass;
-    groups.push(group(
-        scheme,
-        "alpha is not the challenge",
-        alpha_and_challenge(),
-    ));
-    groups.push(group(scheme, "alpha of no weight", alpha_of_no_weight()));
-    groups.push(group(
-        scheme,
-        "v and t1 of no weight",
-        others_of_no_weight(),
-    ));
+    let topics = [
+        ("alpha is not the challenge", alpha_and_challenge()),
+        ("alpha of no weight", alpha_of_no_weight()),
+        ("v and t1 of no weight", others_of_no_weight()),
+    ];
+    let mut groups = of_either(scheme);
+    groups.extend(topics.map(|(topic, cases)| group(scheme, topic, cases)));
+    groups
+}
+
+fn of_either(scheme: Scheme) -> Vec<Group> {
+    let topics = [
+        ("reply to another challenge", another_reply(scheme)),
+        ("commitments made otherwise", made_otherwise(scheme)),
+    ];
+    let mut groups = every_place(scheme);
+    groups.extend(edges(scheme));
+    groups.extend(topics.map(|(topic, cases)| group(scheme, topic, cases)));
     groups
 }
 
@@ -67,13 +70,10 @@ fn every_place(scheme: Scheme) -> Vec<Group> {
         ] {
             let mut spans = honest.spans();
             spans.retain(|span| span.input == input);
-            if !spans.is_empty() {
+            let cases = changes(&honest, &spans, Span::every_place);
+            if !cases.is_empty() {
                 let topic = format!("challenge {challenge}, every place of {name}");
-                groups.push(group(
-                    scheme,
-                    &topic,
-                    changes(&honest, &spans, Span::every_place),
-                ));
+                groups.push(group(scheme, &topic, cases));
             }
         }
     }
@@ -83,7 +83,7 @@ fn every_place(scheme: Scheme) -> Vec<Group> {
 /// Larger rounds with one byte changed, at the first, middle and last place of α, of each vector, of
 /// the commitments and of the reply's ρ.
 fn edges(scheme: Scheme) -> Vec<Group> {
-    let mut random = Generator::from_seed(61 + u64::from(scheme.byte()));
+    let mut random = Generator::from_seed(610 + u64::from(scheme.byte()));
     let mut groups = Vec::new();
     for (q, n, m) in [(2, 16, 33), (31, 5, 16), (251, 64, 33)] {
         let card = Card::random(&mut random, scheme, Shape::new(q, n, m));
@@ -171,9 +171,9 @@ fn one_opening_fails() -> Vec<Group> {
 /// of its ρ or of the vectors.
 fn one_fails(random: &mut Generator, card: &Card, challenge: u8, which: usize) -> Vec<Judgement> {
     let honest = card.judged(0, challenge);
-    let spans = honest.spans();
     let k = honest.opens()[which].0;
-    let [commitment, rho] = [spans[usize::from(k)], spans[REPLY + 3 + which]];
+    let commitment = honest.span(Input::Commitments, k.into());
+    let rho = honest.span(Input::Reply, 3 + which);
     let mut judgements = vec![
         honest.changed(commitment, commitment.start),
         honest.changed(commitment, commitment.start + commitment.length - 1),
@@ -181,7 +181,8 @@ fn one_fails(random: &mut Generator, card: &Card, challenge: u8, which: usize) -
         honest.changed(rho, rho.start),
     ];
     if which == 0 {
-        let [r, v] = [spans[REPLY], spans[KEY]];
+        let r = honest.span(Input::Reply, 0);
+        let v = honest.span(Input::Key, 0);
         judgements.push(honest.changed(r, r.start + r.length - 1));
         judgements.push(mispredicted(random, card, challenge));
         if challenge == 1 {
@@ -195,23 +196,19 @@ fn one_fails(random: &mut Generator, card: &Card, challenge: u8, which: usize) -
     judgements
 }
 
-/// Where the reply's parts and the key stand among the spans of three passes.
-const REPLY: usize = 3;
-const KEY: usize = 8;
-
 /// What commitment k is made of in another round of the card.
 fn another_opening(random: &mut Generator, card: &Card, k: u8) -> Opening {
-    let read = read(&card.system);
-    let q = u16::from(read.field.order());
-    let vectors = [read.n, read.n, read.m()].map(|count| random.bytes_below(q, count));
-    let vectors = vectors.each_ref().map(Vec::as_slice);
-    let another = Card::new(random, card.scheme, card.system.clone(), &card.s, vectors);
-    let challenge = if k == 0 { 1 } else { 0 };
-    let opened = another.judged(0, challenge).opened();
-    opened
-        .into_iter()
-        .find(|opening| opening.k == k)
-        .expect("a challenge that opens k")
+    let system = read(&card.system);
+    let q = u16::from(system.field.order());
+    let vectors = [system.n, system.n, system.m()].map(|count| random.bytes_below(q, count));
+    let rho = random.bytes_below(256, 3 * RHO);
+    let lent = [vectors.concat(), rho].concat();
+    let [c0, c1, c2] = Round::new(&system, &card.s, &lent).openings(&system);
+    match k {
+        0 => c0,
+        1 => c1,
+        _ => c2,
+    }
 }
 
 /// Another t, with an e (in challenge 0 an r too) that keeps what the first opening is made of.
@@ -241,13 +238,15 @@ fn both_openings_fail() -> Vec<Call> {
     for card in small_cards(&mut random) {
         for challenge in card.scheme.challenges() {
             let honest = card.judged(0, challenge);
-            let spans = honest.spans();
-            let [first, second] = [0, 1].map(|which| spans[usize::from(honest.opens()[which].0)]);
-            let [e, first_rho, second_rho] = [2, 3, 4].map(|part| spans[REPLY + part]);
-            judgements.push(honest.changed(e, e.start));
-            judgements
-                .push(honest.with_round(|round| swap(&mut round.reply, first_rho, second_rho)));
-            judgements.push(honest.with_round(|round| swap(&mut round.commitments, first, second)));
+            let opened = honest.opened();
+            let [first, second] =
+                [0, 1].map(|which| honest.span(Input::Commitments, opened[which].k.into()));
+            let [e, first_rho, second_rho] = [2, 3, 4].map(|part| honest.span(Input::Reply, part));
+            judgements.extend([
+                honest.changed(e, e.start),
+                honest.with_round(|round| swap(&mut round.reply, first_rho, second_rho)),
+                honest.with_round(|round| swap(&mut round.commitments, first, second)),
+            ]);
         }
     }
     for judgement in &judgements {
@@ -267,7 +266,7 @@ fn swap(bytes: &mut [u8], one: Span, other: Span) {
 
 /// The reply to each challenge given to each other one.
 fn another_reply(scheme: Scheme) -> Vec<Call> {
-    let mut random = Generator::from_seed(64 + u64::from(scheme.byte()));
+    let mut random = Generator::from_seed(640 + u64::from(scheme.byte()));
     let mut judgements = Vec::new();
     for (q, n, m) in [(2, 16, 5), (7, 3, 2), (31, 2, 3), (251, 5, 16)] {
         let card = Card::random(&mut random, scheme, Shape::new(q, n, m));
@@ -363,14 +362,13 @@ fn others_of_no_weight() -> Vec<Call> {
         let shape = Shape::new(q, 3, 2);
         let card = Card::random(&mut random, scheme, shape);
         let honest = card.judged(0, 1);
-        let spans = honest.spans();
-        let v = spans[spans.len() - 1];
+        let v = honest.span(Input::Key, 0);
         for place in v.every_place() {
             judgements.push(honest.changed(v, place));
         }
         let r0 = card.lent[..shape.n()].to_vec();
         let honest = Card { s: r0, ..card }.judged(q - 1, 1);
-        let t1 = spans[3];
+        let t1 = honest.span(Input::Middle, 1);
         for place in t1.every_place() {
             judgements.push(honest.changed(t1, place));
         }

@@ -3,6 +3,7 @@
 use super::case::{Call, Group};
 use super::exchange::{read, Card, Judgement};
 use super::instance::Shape;
+use super::maps::SMALL;
 use super::piece::Piece;
 use crate::commitment::RHO;
 use crate::field::ORDERS;
@@ -15,8 +16,7 @@ use crate::sha256::DIGEST;
 /// The sizes of n and m.
 const SIZES: [u8; 9] = [1, 2, 3, 5, 16, 33, 64, 95, 96];
 
-/// The small key.
-pub const SMALL: [u8; 13] = [7, 2, 2, 1, 2, 3, 1, 0, 0, 1, 5, 0, 4];
+/// The small key: s, the lent r0, t0, e0, and α.
 pub const SMALL_S: [u8; 2] = [3, 5];
 pub const SMALL_LENT: [[u8; 2]; 3] = [[5, 1], [4, 2], [2, 5]];
 pub const SMALL_ALPHA: u8 = 3;
@@ -56,13 +56,11 @@ fn scheme_groups(scheme: Scheme) -> Vec<Group> {
     }
     groups.push(group(scheme, "reply", all(&runs, Run::reply)));
     groups.push(group(scheme, "judge", all(&runs, Run::judgements)));
-    let topic = "smallest and largest elements";
-    groups.push(group(scheme, topic, extreme_elements(scheme)));
-    groups.push(group(
-        scheme,
-        "lowest differences",
-        lowest_differences(scheme),
-    ));
+    let topics = [
+        ("smallest and largest elements", extreme_elements(scheme)),
+        ("lowest differences", lowest_differences(scheme)),
+    ];
+    groups.extend(topics.map(|(topic, cases)| group(scheme, topic, cases)));
     groups
 }
 
@@ -149,7 +147,7 @@ fn small_key(scheme: Scheme) -> Vec<Call> {
 /// Every size as n and as m, q in turn, every challenge judged; and at each q the most uneven sizes,
 /// the least and the largest, one judged. Challenges that are replied to go in turn.
 fn runs_of_sizes(scheme: Scheme) -> Vec<Run> {
-    let mut random = Generator::from_seed(52 + u64::from(scheme.byte()));
+    let mut random = Generator::from_seed(520 + u64::from(scheme.byte()));
     let mut challenges = scheme.challenges().cycle();
     let mut runs = Vec::new();
     for (q, n, m) in pairs_of_sizes() {
@@ -206,7 +204,7 @@ fn random_run(
 
 /// s, r0 and t0 of all 0 or all q-1, e0 and α q-1: differences of the least and the largest.
 fn extreme_elements(scheme: Scheme) -> Vec<Call> {
-    let mut random = Generator::from_seed(53 + u64::from(scheme.byte()));
+    let mut random = Generator::from_seed(530 + u64::from(scheme.byte()));
     let mut challenges = scheme.challenges().cycle();
     let mut calls = Vec::new();
     for q in ORDERS {
@@ -232,7 +230,7 @@ fn extreme_elements(scheme: Scheme) -> Vec<Call> {
 
 /// Challenge 1 where v is 0 and F(r1), G(t1,r1) and e1 are all q-1.
 fn lowest_differences(scheme: Scheme) -> Vec<Call> {
-    let mut random = Generator::from_seed(54 + u64::from(scheme.byte()));
+    let mut random = Generator::from_seed(540 + u64::from(scheme.byte()));
     let judgements = ORDERS.map(|q| lowest_difference(&mut random, scheme, q));
     judgements.into_iter().map(accepted).collect()
 }

@@ -2,9 +2,9 @@
 
 use super::case::{Answer, Call, Group, FILL};
 use super::exchange::{read, Card, Judgement};
-use super::honest::{pairs_of_sizes, SMALL, SMALL_LENT, SMALL_S};
+use super::honest::{pairs_of_sizes, SMALL_LENT, SMALL_S};
 use super::instance::Shape;
-use super::maps::bad_systems;
+use super::maps::{bad_systems, SMALL};
 use super::piece::Piece;
 use crate::commitment::RHO;
 use crate::entries::{self, Simulate};
