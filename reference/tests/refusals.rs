@@ -122,7 +122,8 @@ impl Simulation {
     }
 }
 
-/// Each fault of a simulation, with its number; of two at once the first by document 01's order counts.
+/// Each fault of a simulation, with its number; of two at once the one that comes first in document
+/// 01's order counts.
 #[test]
 fn simulate_in_order() {
     type Fault = (u8, fn(&mut Simulation));

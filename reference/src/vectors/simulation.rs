@@ -141,17 +141,11 @@ pub fn groups() -> Vec<Group> {
         group("sizes", calls(&sizes())),
         group("every challenge", calls(&every_challenge())),
         group("judged", judged()),
-        group("refused systems", calls(&refused(|fault| fault.systems()))),
-        group("refused lengths", calls(&refused(|fault| fault.lengths()))),
-        group(
-            "refused elements",
-            calls(&refused(|fault| fault.elements())),
-        ),
-        group(
-            "refused challenges",
-            calls(&refused(|fault| fault.challenges())),
-        ),
-        group("several faults", calls(&refused(|fault| fault.several()))),
+        group("refused systems", refused(Faults::systems)),
+        group("refused lengths", refused(Faults::lengths)),
+        group("refused elements", refused(Faults::elements)),
+        group("refused challenges", refused(Faults::challenges)),
+        group("several faults", refused(Faults::several)),
     ]
 }
 
@@ -231,12 +225,12 @@ fn judged() -> Vec<Call> {
 const REFUSED_SHAPES: [(u8, u8, u8); 4] = [(7, 2, 2), (2, 1, 3), (31, 5, 1), (251, 96, 96)];
 
 /// Refused simulations of each shape, made from one that is not refused.
-fn refused(make: impl Fn(&Faults) -> Vec<Simulation>) -> Vec<Simulation> {
+fn refused(make: fn(&Faults) -> Vec<Simulation>) -> Vec<Call> {
     let mut simulations = Vec::new();
     for (q, n, m) in REFUSED_SHAPES {
         simulations.extend(make(&Faults::new(Shape::new(q, n, m))));
     }
-    simulations
+    calls(&simulations)
 }
 
 /// A simulation that is not refused, to be changed.
@@ -254,7 +248,7 @@ impl Faults {
         Faults { shape, good }
     }
 
-    /// The same changed once more.
+    /// The good one changed.
     fn changed(&self, change: impl FnOnce(&mut Simulation)) -> Simulation {
         let mut simulation = self.good.clone();
         change(&mut simulation);
@@ -318,13 +312,10 @@ impl Faults {
         let Simulation { v, lent, .. } = &self.good;
         let mut simulations = Vec::new();
         for byte in [q, 255] {
-            for place in [0, m - 1] {
+            for place in edges(&[m]) {
                 simulations.push(self.with_v(v.clone().patched(place, byte)));
             }
-            let ends = [n, 2 * n, 3 * n, 3 * n + m];
-            let starts = [0, n, 2 * n, 3 * n];
-            let lasts = ends.map(|end| end - 1);
-            for place in starts.into_iter().chain(lasts) {
+            for place in edges(&[n, n, n, m]) {
                 simulations.push(self.with_lent(lent.clone().patched(place, byte)));
             }
         }
@@ -370,6 +361,18 @@ impl Faults {
         }
         simulations
     }
+}
+
+/// The first and the last place of consecutive vectors of these lengths, without repeats.
+fn edges(lengths: &[usize]) -> Vec<usize> {
+    let mut places = Vec::new();
+    let mut start = 0;
+    for length in lengths {
+        places.extend([start, start + length - 1]);
+        start += length;
+    }
+    places.dedup();
+    places
 }
 
 /// None, one too few, one too many and the others, without the right one and repeats.
