@@ -1,8 +1,8 @@
 //! The engine's entries as the outside sees them: numbers, slices and refusals.
 //!
 //! Document 01, "Refused because of the state", has their order: the system first, then the
-//! arguments left to right, all 1, all 2, all 3, then 4. Outputs count as arguments with an exact length. A
-//! refused call leaves its outputs unchanged.
+//! arguments left to right, all 1, all 2, all 3, then 4. Outputs count as arguments with an exact
+//! length. A refused call leaves its outputs unchanged.
 
 use crate::map;
 use crate::refusal::{number, unless, Refusal};
