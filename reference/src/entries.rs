@@ -1,12 +1,14 @@
 //! The engine's entries as the outside sees them: numbers, slices and refusals.
 //!
 //! Document 01, "Refused because of the state", has their order: the system first, then the
-//! arguments left to right, all 1, all 2, all 3. Outputs count as arguments with an exact length. A
-//! refused call leaves its outputs unchanged.
+//! arguments left to right, all 1, all 2, all 3, then 4. Outputs count as arguments with an exact
+//! length. A refused call leaves its outputs unchanged.
 
 use crate::map;
 use crate::refusal::{number, unless, Refusal};
+use crate::scheme::Scheme;
 use crate::sha256::{sha256, DIGEST};
+use crate::simulator::{self, Simulation};
 use crate::system::System;
 use crate::vector::all_elements;
 
@@ -33,6 +35,22 @@ pub fn digest(message: &[u8], out: &mut [u8]) -> u8 {
     number(try_digest(message, out))
 }
 
+/// The arguments of `simulate`, in their order. `predicted` is Ch*, the challenge not to come.
+pub struct Simulate<'a> {
+    pub system: &'a [u8],
+    pub v: &'a [u8],
+    pub predicted: u8,
+    pub challenge: u8,
+    pub lent: &'a [u8],
+    pub commitments: &'a mut [u8],
+    pub reply: &'a mut [u8],
+}
+
+/// A simulated three-pass round's commitments and its reply to the challenge.
+pub fn simulate(arguments: Simulate) -> u8 {
+    number(try_simulate(arguments))
+}
+
 fn try_evaluate(system: &[u8], x: &[u8], out: &mut [u8]) -> Result<(), Refusal> {
     let system = System::read(system)?;
     unless(x.len() == system.n, Refusal::Length)?;
@@ -57,5 +75,37 @@ fn try_digest(message: &[u8], out: &mut [u8]) -> Result<(), Refusal> {
     unless(message.len() <= LONGEST_MESSAGE, Refusal::Length)?;
     unless(out.len() == DIGEST, Refusal::Length)?;
     out.copy_from_slice(&sha256(message));
+    Ok(())
+}
+
+fn try_simulate(arguments: Simulate) -> Result<(), Refusal> {
+    let Simulate {
+        system,
+        v,
+        predicted,
+        challenge,
+        lent,
+        commitments,
+        reply,
+    } = arguments;
+    let scheme = Scheme::ThreePass;
+    let system = System::read(system)?;
+    let digests = usize::from(scheme.commitments()) * DIGEST;
+    unless(v.len() == system.m(), Refusal::Length)?;
+    unless(
+        lent.len() == simulator::lent_length(&system),
+        Refusal::Length,
+    )?;
+    unless(commitments.len() == digests, Refusal::Length)?;
+    unless(reply.len() == scheme.reply_length(&system), Refusal::Length)?;
+    let vectors = &lent[..simulator::lent_elements(&system)];
+    unless(all_elements(system.field, v), Refusal::Element)?;
+    unless(all_elements(system.field, vectors), Refusal::Element)?;
+    unless(scheme.challenges().contains(&predicted), Refusal::Challenge)?;
+    unless(scheme.challenges().contains(&challenge), Refusal::Challenge)?;
+    unless(challenge != predicted, Refusal::Challenge)?;
+    let simulation = Simulation::new(&system, v, predicted, lent);
+    commitments.copy_from_slice(&simulation.commitments());
+    reply.copy_from_slice(&simulation.reply(challenge));
     Ok(())
 }

@@ -4,12 +4,19 @@
 //! tuned. A module renders one part of document 01 and names its section. `entries` is the engine
 //! as the outside sees it, refusals included; `vectors` makes the stored test vectors from it.
 
+pub mod commitment;
 pub mod entries;
 pub mod field;
+pub mod five_pass;
+pub mod layout;
 pub mod map;
 pub mod random;
 pub mod refusal;
+pub mod rounds;
+pub mod scheme;
 pub mod sha256;
+pub mod simulator;
 pub mod system;
+pub mod three_pass;
 pub mod vector;
 pub mod vectors;

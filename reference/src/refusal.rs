@@ -9,6 +9,8 @@ pub enum Refusal {
     Length,
     /// 3: an element is not below q.
     Element,
+    /// 4: a challenge is outside its values.
+    Challenge,
 }
 
 impl Refusal {
@@ -17,6 +19,7 @@ impl Refusal {
             Refusal::Value => 1,
             Refusal::Length => 2,
             Refusal::Element => 3,
+            Refusal::Challenge => 4,
         }
     }
 }

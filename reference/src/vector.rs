@@ -15,6 +15,14 @@ pub fn difference(field: Field, x: &[u8], y: &[u8]) -> Vec<u8> {
     pairwise(x, y, |a, b| field.difference(a, b))
 }
 
+/// `x` less each of the others.
+pub fn less(field: Field, x: &[u8], others: &[&[u8]]) -> Vec<u8> {
+    let start = x.to_vec();
+    others
+        .iter()
+        .fold(start, |rest, other| difference(field, &rest, other))
+}
+
 /// Each element of `x` times the scalar.
 pub fn multiple(field: Field, scalar: u8, x: &[u8]) -> Vec<u8> {
     x.iter().map(|&a| field.product(scalar, a)).collect()

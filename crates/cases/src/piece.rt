@@ -35,9 +35,9 @@ pub struct Loaded {
     pub next: usize,
 }
 
-// A piece of at most 256 bytes.
+// A piece of at most 512 bytes.
 pub struct Small {
-    pub bytes: [u8; 256],
+    pub bytes: [u8; 512],
     pub length: usize,
     pub next: usize,
 }
@@ -95,9 +95,9 @@ pub fn load(file: &[u8], at: usize, buffer: &mut [u8]) -> Loaded
 // The same for a short piece.
 pub fn load_small(file: &[u8], at: usize) -> Small
     ensures { λ r. ⌜ Counts (r .length) (r .bytes) ⌝ }
-    ensures { λ r. ⌜ r .length ≤ 256 ⌝ }
+    ensures { λ r. ⌜ r .length ≤ 512 ⌝ }
 {
-    let mut bytes = [0u8; 256];
+    let mut bytes = [0u8; 512];
     let loaded = load(file, at, &mut bytes);
     Small {
         bytes,

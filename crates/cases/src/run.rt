@@ -16,7 +16,7 @@ pub struct Outcome {
 }
 
 // How a case with an output went, from the output expected and the whole output buffer.
-pub fn compared(expected: Small, number_agrees: bool, out: [u8; 256]) -> Outcome
+pub fn compared(expected: Small, number_agrees: bool, out: [u8; 512]) -> Outcome
     ensures { λ r. ⌜ (r .agrees ≡ true → SameStart out (expected .bytes) (expected .length)) ⌝ }
     ensures { λ r. ⌜ (r .agrees ≡ true → «number_agrees» ≡ true) ⌝ }
 {

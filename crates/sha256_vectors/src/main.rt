@@ -47,7 +47,7 @@ fn digest_case(file: &[u8], at: usize, buffer: &mut [u8]) -> Outcome {
     let length = message.length;
     let expected = cases::load_small(file, message.next);
     let out_length = expected.length;
-    let mut out = [head.fill; 256];
+    let mut out = [head.fill; 512];
     let number = sha256::digest(&buffer[..length], &mut out[..out_length]);
     cases::compared(expected, number == head.number, out)
 }

@@ -80,7 +80,7 @@ fn evaluate_case(file: &[u8], at: usize, buffer: &mut [u8]) -> Outcome {
     let x_length = x.length;
     let x_bytes = x.bytes;
     let out_length = expected.length;
-    let mut out = [head.fill; 256];
+    let mut out = [head.fill; 512];
     let number = evaluation::evaluate(
         &buffer[..length],
         &x_bytes[..x_length],
@@ -101,7 +101,7 @@ fn polar_case(file: &[u8], at: usize, buffer: &mut [u8]) -> Outcome {
     let y_length = y.length;
     let y_bytes = y.bytes;
     let out_length = expected.length;
-    let mut out = [head.fill; 256];
+    let mut out = [head.fill; 512];
     let number = evaluation::polar(
         &buffer[..length],
         &x_bytes[..x_length],

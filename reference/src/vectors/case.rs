@@ -1,6 +1,8 @@
-//! A case: one call of an entry with its expected number and output.
+//! A case: one call with its expected number and outputs.
 
+use super::exchange::{Card, Judgement};
 use super::piece::{encode_number, Piece};
+use super::simulation::Simulation;
 use crate::entries;
 
 /// What every output byte is before a call. It is no field's element, so that an element left
@@ -10,9 +12,9 @@ pub const FILL: u8 = 255;
 /// The most bytes that the programs' buffers take: a message, a system, any other piece.
 const MOST_OF_MESSAGE: usize = 66_000;
 const MOST_OF_SYSTEM: usize = 500_000;
-const MOST_OF_OTHERS: usize = 256;
+const MOST_OF_OTHERS: usize = 512;
 
-/// One call: the entry, its arguments, and the length of its output.
+/// One call: its arguments, and the lengths of its outputs where they are not fixed.
 #[derive(Clone, Debug, PartialEq, Eq)]
 pub enum Call {
     Check {
@@ -33,13 +35,24 @@ pub enum Call {
         message: Piece,
         out: usize,
     },
+    Commit(Card),
+    Answer {
+        card: Card,
+        alpha: u8,
+    },
+    Reply {
+        card: Card,
+        challenge: u8,
+    },
+    Judge(Judgement),
+    Simulate(Simulation),
 }
 
-/// What a call answers: its number and its output afterwards.
+/// What a call answers: its number and its outputs afterwards.
 #[derive(Clone, Debug, PartialEq, Eq)]
 pub struct Answer {
     pub number: u8,
-    pub out: Option<Vec<u8>>,
+    pub outs: Vec<Vec<u8>>,
 }
 
 /// Cases that are reported together.
@@ -49,13 +62,18 @@ pub struct Group {
 }
 
 impl Call {
-    /// The byte that names the entry in a file.
+    /// The byte that names the call in a file.
     pub fn kind(&self) -> u8 {
         match self {
             Call::Check { .. } => 0,
             Call::Evaluate { .. } => 1,
             Call::Polar { .. } => 2,
             Call::Digest { .. } => 3,
+            Call::Commit(_) => 4,
+            Call::Answer { .. } => 5,
+            Call::Reply { .. } => 6,
+            Call::Judge(_) => 7,
+            Call::Simulate(_) => 8,
         }
     }
 
@@ -64,7 +82,7 @@ impl Call {
         match self {
             Call::Check { system } => Answer {
                 number: entries::check(&system.expanded()),
-                out: None,
+                outs: Vec::new(),
             },
             Call::Evaluate { system, x, out } => answer(*out, |out| {
                 entries::evaluate(&system.expanded(), &x.expanded(), out)
@@ -75,16 +93,39 @@ impl Call {
             Call::Digest { message, out } => {
                 answer(*out, |out| entries::digest(&message.expanded(), out))
             }
+            Call::Commit(card) => written(card.commitments()),
+            Call::Answer { card, alpha } => written(card.answer(*alpha)),
+            Call::Reply { card, challenge } => written(card.reply(*challenge)),
+            Call::Judge(judgement) => Answer {
+                number: u8::from(judgement.is_accepted()),
+                outs: Vec::new(),
+            },
+            Call::Simulate(simulation) => simulation.answer(),
         }
     }
 
     /// The arguments that are read, in order.
-    fn inputs(&self) -> Vec<&Piece> {
+    fn inputs(&self) -> Vec<Piece> {
         match self {
-            Call::Check { system } => vec![system],
-            Call::Evaluate { system, x, .. } => vec![system, x],
-            Call::Polar { system, x, y, .. } => vec![system, x, y],
-            Call::Digest { message, .. } => vec![message],
+            Call::Check { system } => vec![system.clone()],
+            Call::Evaluate { system, x, .. } => vec![system.clone(), x.clone()],
+            Call::Polar { system, x, y, .. } => vec![system.clone(), x.clone(), y.clone()],
+            Call::Digest { message, .. } => vec![message.clone()],
+            Call::Commit(card) => card_inputs(card),
+            Call::Answer { card, alpha } => {
+                vec![
+                    card.system.clone(),
+                    Piece::byte(*alpha),
+                    Piece::literal(&card.lent),
+                ]
+            }
+            Call::Reply { card, challenge } => {
+                let mut inputs = card_inputs(card);
+                inputs.push(Piece::byte(*challenge));
+                inputs
+            }
+            Call::Judge(judgement) => judgement_inputs(judgement),
+            Call::Simulate(simulation) => simulation.inputs(),
         }
     }
 
@@ -94,11 +135,11 @@ impl Call {
             Call::Digest { .. } => MOST_OF_MESSAGE,
             _ => MOST_OF_SYSTEM,
         };
-        let lengths: Vec<usize> = self.inputs().iter().map(|piece| piece.length()).collect();
+        let lengths: Vec<usize> = self.inputs().iter().map(Piece::length).collect();
         lengths[0] <= most_of_first && lengths[1..].iter().all(|&length| length <= MOST_OF_OTHERS)
     }
 
-    /// Appends the case to a file: kind, number, fill, the inputs, the output expected.
+    /// Appends the case to a file: kind, number, fill, the inputs, the outputs expected.
     fn encode(&self, file: &mut Vec<u8>) {
         assert!(self.fits(), "a case that the programs have room for");
         let answer = self.answer();
@@ -106,18 +147,51 @@ impl Call {
         for piece in self.inputs() {
             piece.encode(file);
         }
-        if let Some(out) = answer.out {
+        for out in answer.outs {
+            assert!(out.len() <= MOST_OF_OTHERS, "room for an output");
             expected_piece(answer.number, &out).encode(file);
         }
     }
+}
+
+/// The system, the scheme, s and the lent slice.
+fn card_inputs(card: &Card) -> Vec<Piece> {
+    vec![
+        card.system.clone(),
+        Piece::byte(card.scheme.byte()),
+        Piece::literal(&card.s),
+        Piece::literal(&card.lent),
+    ]
+}
+
+/// The system, the scheme, v and the round in the order in which it ran.
+fn judgement_inputs(judgement: &Judgement) -> Vec<Piece> {
+    let round = &judgement.round;
+    vec![
+        judgement.system.clone(),
+        Piece::byte(judgement.scheme.byte()),
+        Piece::literal(&judgement.v),
+        Piece::literal(&round.commitments),
+        Piece::literal(&round.middle),
+        Piece::byte(round.challenge),
+        Piece::literal(&round.reply),
+    ]
 }
 
 /// Calls an entry on an output of that length, filled beforehand.
 fn answer(length: usize, call: impl Fn(&mut [u8]) -> u8) -> Answer {
     let mut out = vec![FILL; length];
     let number = call(&mut out);
-    let out = Some(out);
-    Answer { number, out }
+    let outs = vec![out];
+    Answer { number, outs }
+}
+
+/// The answer of a call that is not refused and has one output.
+fn written(out: Vec<u8>) -> Answer {
+    Answer {
+        number: 0,
+        outs: vec![out],
+    }
 }
 
 /// The output expected: what was written, or in a refused call the fill, in short form.

@@ -68,7 +68,7 @@ impl Shape {
         self.constant_vector(0).patched(place, 1)
     }
 
-    fn random_elements(self, random: &mut Generator, count: usize) -> Vec<u8> {
+    pub fn random_elements(self, random: &mut Generator, count: usize) -> Vec<u8> {
         random.bytes_below(u16::from(self.q), count)
     }
 }

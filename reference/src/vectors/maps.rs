@@ -12,7 +12,7 @@ use crate::system::HEAD;
 const SIZES: [u8; 14] = [1, 2, 3, 5, 16, 17, 31, 32, 33, 48, 64, 84, 95, 96];
 
 /// The small key's system, and its q = 2 and q = 251 companions.
-const SMALL: [u8; 13] = [7, 2, 2, 1, 2, 3, 1, 0, 0, 1, 5, 0, 4];
+pub const SMALL: [u8; 13] = [7, 2, 2, 1, 2, 3, 1, 0, 0, 1, 5, 0, 4];
 const SMALL_BINARY: [u8; 5] = [2, 1, 1, 1, 0];
 const SMALL_LARGE: [u8; 5] = [251, 1, 1, 1, 0];
 
@@ -357,7 +357,7 @@ fn with_bad_systems(shape: Shape, instances: &[Instance]) -> Vec<Instance> {
 }
 
 /// The system with one fault of each kind.
-fn bad_systems(shape: Shape, system: &Piece) -> Vec<Piece> {
+pub fn bad_systems(shape: Shape, system: &Piece) -> Vec<Piece> {
     let pattern = [0, 1, 1];
     vec![
         Piece::literal(&[]),

@@ -1,12 +1,16 @@
 //! The stored test vectors: a file of groups of cases for each program that runs them.
 //!
-//! The format is documented in README.md. Expected answers are those of `entries`.
+//! The format is documented in README.md. Expected answers are those of `entries` and `rounds`.
 
 pub mod case;
+pub mod exchange;
+pub mod forged;
 pub mod hash;
+pub mod honest;
 pub mod instance;
 pub mod maps;
 pub mod piece;
+pub mod simulation;
 pub mod system_check;
 
 use case::{encode, Group};
@@ -23,6 +27,7 @@ pub fn files() -> Vec<VectorFile> {
     vec![
         file("sha256_vectors", &hash::groups()),
         file("system_vectors", &system_groups()),
+        file("round_vectors", &round_groups()),
     ]
 }
 
@@ -31,6 +36,14 @@ fn system_groups() -> Vec<Group> {
     let mut groups = system_check::groups();
     groups.extend(maps::groups());
     groups
+}
+
+/// Honest rounds, rounds that are not, and the simulator.
+fn round_groups() -> Vec<Group> {
+    [honest::groups(), forged::groups(), simulation::groups()]
+        .into_iter()
+        .flatten()
+        .collect()
 }
 
 fn file(program: &'static str, groups: &[Group]) -> VectorFile {

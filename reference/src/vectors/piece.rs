@@ -21,6 +21,11 @@ impl Piece {
         Piece::repeated(bytes, bytes.len())
     }
 
+    /// A single byte.
+    pub fn byte(byte: u8) -> Piece {
+        Piece::literal(&[byte])
+    }
+
     /// As many bytes as asked, the pattern over and over. A pattern is never longer than the piece.
     pub fn repeated(pattern: &[u8], length: usize) -> Piece {
         let kept = pattern.len().min(length);
