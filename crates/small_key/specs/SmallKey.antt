@@ -1,4 +1,4 @@
--- Document 01, "The small key": its marked examples, one field each, under one assertion. K5 to K9 are about the rounds and join with them.
+-- Document 01, "The small key": its twelve marked examples, one field each, under one assertion.
 use Prim.Native.Nat.{ℕ}
 use mathlib.Core.Path.{_≡_}
 use mathlib.Core.List.{List, [], _∷_}
@@ -6,6 +6,8 @@ use lib.ListN.{length}
 use Rattle.slices.specs.Slices.{_!_}
 use Rattle.field.specs.Vector.{vector}
 use Rattle.system.specs.System.{F, G}
+use Rattle.protocol.specs.Protocols.{Vectors, unmasked, unmaskedBy, cardThree, cardFive, simulated}
+use Rattle.protocol.specs.Rounds.{mapOf}
 
 infix 40 _gives_
 -- the assertion that all share: a vector has the printed elements, and zeros beyond them
@@ -26,6 +28,26 @@ r0 = 5 ∷ 1 ∷ []
 abbrev pub r1 : List ℕ
 r1 = 5 ∷ 4 ∷ []
 
+-- "t0 = (4,2), e0 = (2,5)", and v = F(s)
+abbrev pub t0 : List ℕ
+t0 = 4 ∷ 2 ∷ []
+
+abbrev pub e0 : List ℕ
+e0 = 2 ∷ 5 ∷ []
+
+abbrev pub v : List ℕ
+v = 5 ∷ 6 ∷ []
+
+-- the card's vectors in each scheme, and the simulator's with Ch* = 0 and s' = (1,0)
+abbrev pub threePasses : Vectors (List ℕ) (List ℕ)
+threePasses = cardThree (mapOf key) s r0 t0 e0
+
+abbrev pub fivePasses : Vectors (List ℕ) (List ℕ)
+fivePasses = cardFive (mapOf key) 3 s r0 t0 e0
+
+abbrev pub simulation : Vectors (List ℕ) (List ℕ)
+simulation = simulated (mapOf key) 0 v (1 ∷ 0 ∷ []) r0 t0 e0
+
 -- "q = 2, f = (1,0)" and "q = 251, f = (1,0)"
 abbrev pub keyOfTwo : List ℕ
 keyOfTwo = 2 ∷ 1 ∷ 1 ∷ 1 ∷ 0 ∷ []
@@ -38,6 +60,13 @@ pub record SmallKey : Type 0 where
   pub K2 : F key r0 gives 1 ∷ 0 ∷ []
   pub K3 : F key r1 gives 6 ∷ 4 ∷ []
   pub K4 : G key r0 r1 gives 5 ∷ 2 ∷ []
+  pub K5 : threePasses .mask gives 2 ∷ 6 ∷ []
+  pub K6 : (threePasses .t1 gives 1 ∷ 6 ∷ []) × (threePasses .e1 gives 6 ∷ 2 ∷ [])
+  pub K7 : unmasked (mapOf key) v r1 (threePasses .t1) (threePasses .e1) gives 2 ∷ 6 ∷ []
+  pub K8 :
+      (fivePasses .t1 gives 4 ∷ 1 ∷ []) × (fivePasses .e1 gives 1 ∷ 2 ∷ []) ×
+      (unmaskedBy (mapOf key) 3 v r1 (fivePasses .t1) (fivePasses .e1) gives 2 ∷ 6 ∷ [])
+  pub K9 : (simulation .r1 gives 3 ∷ 6 ∷ []) × (simulation .e1 gives 2 ∷ 1 ∷ []) × (simulation .mask gives 4 ∷ 1 ∷ [])
   pub K10 : F key (0 ∷ 0 ∷ []) gives 0 ∷ 0 ∷ []
   pub K11 : G keyOfTwo (1 ∷ []) (1 ∷ []) gives 0 ∷ []
   pub K12 : F keyOfLarge (250 ∷ []) gives 1 ∷ []
