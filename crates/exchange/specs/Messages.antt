@@ -1,8 +1,9 @@
 -- The messages of a round as bytes, in the order in which document 01 names their parts, and the judgement of a round by them.
 use Prim.Native.Nat.{ℕ, _+_}
 use mathlib.Core.Bool.{Bool, cond}
-use mathlib.Core.List.{List}
+use mathlib.Core.List.{List, _++_}
 use lib.Dec.{eqb}
+use lib.ListN.{take}
 use Rattle.slices.specs.Slices.{_!_, tabulate}
 use Rattle.field.specs.Vector.{slotV}
 use Rattle.system.specs.System.{nOf, mOf}
@@ -47,3 +48,13 @@ accepts b scheme v commitments middle challenge reply =
     let m = mOf b in
     cond (eqb scheme 3) (acceptsThree b v (commitmentsIn commitments) challenge (replyThreeIn n m reply))
     (acceptsFive b v (commitmentsIn commitments) (middle ! 0) (middleIn n m middle) challenge (replyFiveIn n reply))
+
+-- ---- what is written
+
+-- the three commitments of a three-pass round
+unfoldable pub threeCommitments : Commitments → List ℕ
+threeCommitments c = c .c0 ++ c .c1 ++ c .c2
+
+-- "r0, t1, e1, ρ1, ρ2", "r1, t1, e1, ρ0, ρ2", "r1, t0, e0, ρ0, ρ1"
+unfoldable pub replyThreeBytes : ℕ → ℕ → ReplyThree → List ℕ
+replyThreeBytes n m r = take n (r .x) ++ take n (r .y) ++ take m (r .z) ++ r .first ++ r .second

@@ -5,9 +5,12 @@
 // of another length first.
 mod judgement;
 mod read;
+mod write;
 
 pub use judgement::judge;
 pub use read::read_commitments;
 pub use read::read_middle;
 pub use read::read_reply_five;
 pub use read::read_reply_three;
+pub use write::write_commitments;
+pub use write::write_reply_three;

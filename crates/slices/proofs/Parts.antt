@@ -1,12 +1,12 @@
 -- Parts of a list, from s up to e: what stands in them, how long they are, and a list with a part of it replaced. Assumes nothing.
 use Prim.Native.Nat.{ℕ, _+_, _-_, _≤_, _<_}
 use mathlib.Core.Path.{_≡_, sym, ap, ap₂, _∙_}
-use mathlib.Core.List.{List, _++_, append-nil}
+use mathlib.Core.List.{List, _++_, append-nil, append-assoc}
 use native.Mathlib.Omega.{arith}
-use lib.ListN.{length, take, drop, length-drop, List·getD-append}
-use lib.Seq.{length-take-le, take-all, take-length, drop-length, getD-take, getD-drop, getD-append-add}
+use lib.ListN.{length, take, drop, length-append, length-drop, List·getD-append}
+use lib.Seq.{length-take-le, take-at, take-all, take-length, drop-length, getD-take, getD-drop, getD-append-add}
 use borrow.Rule.Slice.PartMut.{putMid, postOf, post-is}
-use Rattle.slices.specs.Slices.{_!_}
+use Rattle.slices.specs.Slices.{_!_, placed}
 
 pub part-at : (a : List ℕ) (s e i : ℕ) → i < e - s → take (e - s) (drop s a) ! i ≡ a ! (s + i)
 part-at a s e i h = getD-take (e - s) (drop s a) i 0 h ∙ getD-drop s a i 0
@@ -40,3 +40,20 @@ pub put-whole : (a e : ℕ) (xs src l : List ℕ) → a ≤ e → e ≤ length x
     l ≡ take (length src) src ++ drop (length src) (take (e - a) (drop a xs)) → putMid a (e - a) xs l ≡ take a xs ++ (src ++ drop e xs)
 put-whole a e xs src l h within same copied =
     ap₂ (λ (s t : List ℕ). take a xs ++ (s ++ t)) (copied-whole src (take (e - a) (drop a xs)) l (same ∙ sym (length-part xs a e h within)) copied) (post-is a e xs h)
+
+-- ---- a list that is written from the front, piece by piece
+
+pub length-placed : (l s : List ℕ) (place : ℕ) → place + length s ≤ length l → length (placed l place s) ≡ length l
+unfolding placed
+length-placed l s place room = simp (length-append, length-take-le place l (omega arith), length-drop) (omega arith)
+
+pub placed-next : (done s l r : List ℕ) (place next : ℕ) → take place l ≡ done → place + length s ≤ length l → next ≡ place + length s → r ≡ placed l place s → take next r ≡ done ++ s
+unfolding placed
+placed-next done s l r place next written room e er =
+    ap₂ take e er ∙
+    ap (take (place + length s)) (sym (append-assoc (take place l) s (drop (place + length s) l))) ∙
+    take-at (take place l ++ s) (drop (place + length s) l) (place + length s) (simp (length-append, length-take-le place l (omega arith))) ∙
+    ap (λ (d : List ℕ). d ++ s) written
+
+pub placed-all : (done r : List ℕ) (next : ℕ) → take next r ≡ done → length r ≡ next → r ≡ done
+placed-all done r next written long = sym (take-all next r (omega arith)) ∙ written

@@ -1,9 +1,9 @@
 -- Lists of numbers read by place.
-use Prim.Native.Nat.{ℕ, zero, suc}
-use mathlib.Core.List.{List, [], _∷_}
+use Prim.Native.Nat.{ℕ, zero, suc, _+_}
+use mathlib.Core.List.{List, [], _∷_, _++_}
 use mathlib.Core.Bool.{Bool, true, false, _&&_}
 use lib.Dec.{eqb}
-use lib.ListN.{getD}
+use lib.ListN.{length, getD, take, drop}
 
 infixl 90 _!_
 -- what stands at place i of a list, from 0; 0 beyond its end
@@ -21,3 +21,7 @@ same [] [] = true
 same [] (y ∷ ys) = false
 same (x ∷ xs) [] = false
 same (x ∷ xs) (y ∷ ys) = eqb x y && same xs ys
+
+-- a list with s in the place of what stands from a place on
+unfoldable pub placed : List ℕ → ℕ → List ℕ → List ℕ
+placed l place s = take place l ++ (s ++ drop (place + length s) l)

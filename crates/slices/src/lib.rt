@@ -1,7 +1,8 @@
 // Reading a slice of bytes by place, with no check left to the caller.
 ghost use mathlib.Core.Path.{_≡_};
-ghost use Prim.Native.Nat.{_+_};
-ghost use Rattle.slices.specs.Slices.{_!_, tabulate, same};
+ghost use Prim.Native.Nat.{_+_, _≤_};
+ghost use lib.ListN.{length};
+ghost use Rattle.slices.specs.Slices.{_!_, tabulate, same, placed};
 
 // The byte at place i, and 0 beyond the end.
 pub fn byte_at(s: &[u8], i: usize) -> u8
@@ -46,4 +47,13 @@ pub fn same32(a: [u8; 32], b: [u8; 32]) -> bool
         i += 1;
     }
     true
+}
+
+// Puts s in the place of the bytes from `at` on.
+pub fn put(out: &mut [u8], at: usize, s: &[u8])
+    requires { ⌜ at + length (now s) ≤ length (now out) ⌝ }
+    ensures { λ _. ⌜ now (out .exit) ≡ placed (now (out .entry)) «at» (now (s .entry)) ⌝ }
+{
+    let end = at + s.len();
+    bytes::copy(s, &mut out[at..end]);
 }
