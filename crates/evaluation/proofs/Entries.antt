@@ -3,22 +3,17 @@ use Prim.Native.Nat.{ℕ, _≤_}
 use mathlib.Core.Path.{_≡_, refl, sym, ap, ap₂, _∙_}
 use mathlib.Core.List.{List, _++_}
 use native.Mathlib.Omega.{arith}
-use lib.Dec.{eqb}
 use lib.ListN.{length, take, drop}
 use lib.Seq.{length-take-le}
-use borrow.Author.Tests.{eqb-true}
 use Rattle.slices.specs.Slices.{_!_}
 use Rattle.slices.proofs.Parts.{copied-whole}
 use Rattle.refusal.specs.Refusal.{unless, _orElse_}
-use Rattle.refusal.proofs.Refusals.{first-zero, later-zero, test-holds}
+use Rattle.refusal.proofs.Refusals.{first-zero, later-zero, equal-holds}
 use Rattle.field.specs.Vector.{vector}
 use Rattle.system.specs.System.{nOf, mOf, systemRefusal, F, G}
 use Rattle.evaluation.specs.Entry.{evaluateRefusal, polarRefusal}
 use Rattle.evaluation.proofs.Laws.{F-held, G-held}
 use Rattle.system.proofs.SystemLayout.{Accepted, accepted}
-
-length-is : (l n : ℕ) → unless (eqb l n) 2 ≡ 0 → l ≡ n
-length-is l n h = eqb-true l n (test-holds (eqb l n) 2 tt h)
 
 -- ---- evaluate
 
@@ -29,11 +24,11 @@ module _ (b x : List ℕ) (out : ℕ) (h : evaluateRefusal b x out ≡ 0) where
 
   pub evaluate-x : length x ≡ nOf b
   unfolding evaluateRefusal
-  evaluate-x = length-is (length x) (nOf b) (first-zero _ _ (first-zero _ _ (later-zero _ _ h)))
+  evaluate-x = equal-holds (length x) (nOf b) 2 tt (first-zero _ _ (first-zero _ _ (later-zero _ _ h)))
 
   pub evaluate-out : out ≡ mOf b
   unfolding evaluateRefusal
-  evaluate-out = length-is out (mOf b) (later-zero _ _ (first-zero _ _ (later-zero _ _ h)))
+  evaluate-out = equal-holds out (mOf b) 2 tt (later-zero _ _ (first-zero _ _ (later-zero _ _ h)))
 
   pub evaluate-value : F b (vector (length x) (λ i. x ! i)) ≡ F b x
   evaluate-value = ap (λ (n : ℕ). F b (vector n (λ i. x ! i))) evaluate-x ∙ F-held b ((accepted b evaluate-system) .n-high) x
@@ -47,15 +42,15 @@ module _ (b x y : List ℕ) (out : ℕ) (h : polarRefusal b x y out ≡ 0) where
 
   polar-x : length x ≡ nOf b
   unfolding polarRefusal
-  polar-x = length-is (length x) (nOf b) (first-zero _ _ (first-zero _ _ (later-zero _ _ h)))
+  polar-x = equal-holds (length x) (nOf b) 2 tt (first-zero _ _ (first-zero _ _ (later-zero _ _ h)))
 
   polar-y : length y ≡ nOf b
   unfolding polarRefusal
-  polar-y = length-is (length y) (nOf b) (first-zero _ _ (later-zero _ _ (first-zero _ _ (later-zero _ _ h))))
+  polar-y = equal-holds (length y) (nOf b) 2 tt (first-zero _ _ (later-zero _ _ (first-zero _ _ (later-zero _ _ h))))
 
   pub polar-out : out ≡ mOf b
   unfolding polarRefusal
-  polar-out = length-is out (mOf b) (later-zero _ _ (later-zero _ _ (first-zero _ _ (later-zero _ _ h))))
+  polar-out = equal-holds out (mOf b) 2 tt (later-zero _ _ (later-zero _ _ (first-zero _ _ (later-zero _ _ h))))
 
   pub polar-value : G b (vector (length x) (λ i. x ! i)) (vector (length y) (λ i. y ! i)) ≡ G b x y
   polar-value =

@@ -36,3 +36,7 @@ kept-refused r old new h = go (eqb r 0) refl
     go : (t : Bool) → eqb r 0 ≡ t → cond (eqb r 0) new old ≡ old
     go true e = absurd (h (eqb-true r 0 e))
     go false e = rw e
+
+-- no refusal: the two numbers are equal
+pub equal-holds : (a b k : ℕ) → T (ltb 0 k) → unless (eqb a b) k ≡ 0 → a ≡ b
+equal-holds a b k positive h = eqb-true a b (test-holds (eqb a b) k positive h)

@@ -1,0 +1,47 @@
+-- One branch: what is refused stays, else both outputs are written. Assumes nothing.
+use Prim.Native.Nat.{_≤_}
+use mathlib.Core.Path.{_≡_, refl, sym, ap, _∙_}
+use lib.ListN.{length}
+use Rattle.refusal.specs.Refusal.{kept}
+use Rattle.refusal.proofs.Refusals.{kept-refused}
+use Rattle.system.proofs.SystemLayout.{accepted}
+use Rattle.simulator.specs.Simulator.{simulateRefusal, simulatedCommitments, simulatedReply}
+use Rattle.simulator.proofs.NotRefused.{system-good, commitments-long, reply-long}
+use borrow.Author.Needs.{needs}
+use Rattle.simulator.proofs.simulate.Statement.{statement}
+use Rattle.simulator.proofs.simulate.Tie as tie
+
+-- nothing is refused
+none : (c : tie.Else1) →
+    let a = c .before .before .before .before .before .before .before .args in
+    simulateRefusal (a .system .now) (a .v .now) (a .guess) (a .challenge) (a .lent .now) (length (a .commitments .now)) (length (a .reply .now)) ≡ 0
+none c = sym (c .before .simulate-refusal .ensures) ∙ c .if1 .left
+
+pub simulate-spec : {M : Type 1} → statement M
+unfolding simulatedCommitments simulatedReply kept
+simulate-spec =
+    tie.close
+    (tie.spec
+    (λ c κs. search needs)
+    (λ c. (c .before .simulate-refusal .ensures, sym (kept-refused _ _ _ (c .if1 .taken)), sym (kept-refused _ _ _ (c .if1 .taken))))
+    (λ c κs. search needs)
+    (λ c κs. search needs)
+    (λ c κs. system-good _ _ _ _ _ _ _ (none (c .before .before)))
+    (λ c κs. search needs)
+    (λ c κs. search needs)
+    (λ c κs. commitments-long _ _ _ _ _ _ _ (none (c .before .before .before .before .before .before)))
+    (λ c κs. search needs)
+    (λ c κs.
+    let good = accepted _ (system-good _ _ _ _ _ _ _ (none (c .before .before .before .before .before .before .before .before .before .before .before))) in (
+      rw (c .before .before .before .before .before .before .before .before .before .before .byte-at .ensures) (good .n-high),
+      rw (c .before .before .before .before .before .before .before .before .before .byte-at2 .ensures) (good .m-high),
+      simp (c .before .before .before .before .before .before .before .before .before .before .byte-at .ensures, c .before .before .before .before .before .before .before .before .before .byte-at2 .ensures) (reply-long _ _ _ _ _ _ _ (none (c .before .before .before .before .before .before .before .before .before .before .before))),
+    ))
+    (λ c. search needs)
+    (λ c. search needs)
+    (λ c.
+    let common = none (c .before .before .before .before .before .before .before .before .before .before .before .before .before .before) in (
+      sym common,
+      simp (c .before .before .before .before .before .before .before .write-commitments .ensures, c .before .before .before .before .before .before .before .before .before .commitments-three .ensures, c .before .before .before .before .before .before .before .before .before .before .lent-rhos .ensures, c .before .before .before .before .before .before .before .before .before .before .before .lent-vectors .ensures, c .before .before .before .before .before .before .before .before .before .before .before .before .byte-at2 .ensures, c .before .before .before .before .before .before .before .before .before .before .before .before .before .byte-at .ensures),
+      simp (c .before .before .write-reply-three .ensures, c .before .before .before .before .reply-three .ensures, c .before .before .before .before .before .before .before .before .before .before .lent-rhos .ensures, c .before .before .before .before .before .before .before .before .before .before .before .lent-vectors .ensures, c .before .before .before .before .before .before .before .before .before .before .before .before .byte-at2 .ensures, c .before .before .before .before .before .before .before .before .before .before .before .before .before .byte-at .ensures),
+    )))
