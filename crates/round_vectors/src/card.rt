@@ -94,6 +94,7 @@ fn commits_five(system: &[u8], card: Card, expected: Small) -> bool
     same_commitments(made, expected, 64)
 }
 
+// The answer takes no s: lent stands in its place, and the card's s is not read.
 pub fn answer_case<'a>(file: &'a [u8], number: u8, at: usize, system: &'a [u8]) -> Outcome
     requires { ⌜ systemRefusal (now system) ≡ 0 ⌝ }
 {
