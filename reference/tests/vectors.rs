@@ -185,7 +185,13 @@ fn every_case_answers_as_it_says() {
         }
         report += &format!("total: {total} cases, {total} agree\n");
         assert_eq!(report, file.stdout);
-        assert!(seen[0] > 0 && seen[2] > 0, "accepted and refused cases");
+        // The calls of `round_vectors` are never refused; 1 is a judgement's accept.
+        let other = if file.program == "round_vectors" {
+            1
+        } else {
+            2
+        };
+        assert!(seen[0] > 0 && seen[other] > 0, "{}", file.program);
     }
 }
 

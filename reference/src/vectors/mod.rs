@@ -28,6 +28,7 @@ pub fn files() -> Vec<VectorFile> {
         file("sha256_vectors", &hash::groups()),
         file("system_vectors", &system_groups()),
         file("round_vectors", &round_groups()),
+        file("simulator_vectors", &simulation::groups()),
     ]
 }
 
@@ -38,12 +39,16 @@ fn system_groups() -> Vec<Group> {
     groups
 }
 
-/// Honest rounds, rounds that are not, and the simulator.
+/// Honest rounds, rounds that are not, and simulated ones.
 fn round_groups() -> Vec<Group> {
-    [honest::groups(), forged::groups(), simulation::groups()]
-        .into_iter()
-        .flatten()
-        .collect()
+    [
+        honest::groups(),
+        forged::groups(),
+        simulation::judged_groups(),
+    ]
+    .into_iter()
+    .flatten()
+    .collect()
 }
 
 fn file(program: &'static str, groups: &[Group]) -> VectorFile {

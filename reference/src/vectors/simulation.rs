@@ -135,12 +135,17 @@ fn shape_of(system: &Piece) -> Shape {
 /// Each Ch* with each other Ch.
 const PAIRS: [(u8, u8); 6] = [(0, 1), (0, 2), (1, 0), (1, 2), (2, 0), (2, 1)];
 
+/// Simulated rounds as the judgement sees them.
+pub fn judged_groups() -> Vec<Group> {
+    vec![group("judged", judged())]
+}
+
+/// The simulator's own calls.
 pub fn groups() -> Vec<Group> {
     vec![
         group("small key", calls(&small_key())),
         group("sizes", calls(&sizes())),
         group("every challenge", calls(&every_challenge())),
-        group("judged", judged()),
         group("refused systems", refused(Faults::systems)),
         group("refused lengths", refused(Faults::lengths)),
         group("refused elements", refused(Faults::elements)),

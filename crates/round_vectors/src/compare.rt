@@ -1,0 +1,86 @@
+// Outputs held against the pieces expected. What is beyond the end of a piece is zero, as in the engine's vectors.
+use cases::Outcome;
+use cases::Small;
+use round::Commitments;
+use round::Middle;
+use round::ReplyFive;
+use round::ReplyThree;
+use slices::same32;
+
+pub fn malformed() -> Outcome {
+    Outcome {
+        next: 0,
+        agrees: false,
+    }
+}
+
+// How a case of the card's calls went, which answer 0.
+pub fn answered(next: usize, number: u8, same: bool) -> Outcome {
+    Outcome {
+        next,
+        agrees: number == 0 && same,
+    }
+}
+
+// Two or three commitments, of so many bytes; the engine's c2 is zero where there are two.
+pub fn same_commitments(made: Commitments, expected: Small, length: usize) -> bool {
+    let bytes = expected.bytes;
+    let wanted = exchange::read_commitments(&bytes);
+    let a0 = made.c0;
+    let a1 = made.c1;
+    let a2 = made.c2;
+    let b0 = wanted.c0;
+    let b1 = wanted.c1;
+    let b2 = wanted.c2;
+    expected.length == length && same32(a0, b0) && same32(a1, b1) && same32(a2, b2)
+}
+
+// t1 and e1, without α before them.
+pub fn same_middle(made: Middle, expected: Small, n: u8, m: u8) -> bool {
+    let bytes = expected.bytes;
+    let t1 = made.t1;
+    let e1 = made.e1;
+    let after_t1 = n as usize;
+    let length = after_t1 + m as usize;
+    expected.length == length
+        && same96(t1, field::slot(&bytes, 0, n))
+        && same96(e1, field::slot(&bytes, after_t1, m))
+}
+
+pub fn same_reply_three(made: ReplyThree, expected: Small, n: u8, m: u8) -> bool {
+    let bytes = expected.bytes;
+    let wanted = exchange::read_reply_three(&bytes, n, m);
+    let vectors = same_vectors(made, wanted);
+    let made_first = made.first;
+    let made_second = made.second;
+    let first = wanted.first;
+    let second = wanted.second;
+    let length = 2 * n as usize + m as usize + 64;
+    expected.length == length && vectors && same32(made_first, first) && same32(made_second, second)
+}
+
+fn same_vectors(made: ReplyThree, wanted: ReplyThree) -> bool {
+    let ax = made.x;
+    let ay = made.y;
+    let az = made.z;
+    let bx = wanted.x;
+    let by = wanted.y;
+    let bz = wanted.z;
+    same96(ax, bx) && same96(ay, by) && same96(az, bz)
+}
+
+pub fn same_reply_five(made: ReplyFive, expected: Small, n: u8) -> bool {
+    let bytes = expected.bytes;
+    let wanted = exchange::read_reply_five(&bytes, n);
+    let ax = made.x;
+    let bx = wanted.x;
+    let a_rho = made.rho;
+    let b_rho = wanted.rho;
+    let length = n as usize + 32;
+    expected.length == length && same96(ax, bx) && same32(a_rho, b_rho)
+}
+
+// Whether two vectors are the same.
+fn same96(a: [u8; 96], b: [u8; 96]) -> bool {
+    check::same(&a, &b)
+}
