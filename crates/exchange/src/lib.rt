@@ -3,11 +3,11 @@
 //
 // Nothing here refuses: what is beyond the end of a message reads as zero. Whoever takes a message from outside refuses one
 // of another length first.
-mod judgement;
+mod judging;
 mod read;
 mod write;
 
-pub use judgement::judge;
+pub use judging::judge;
 pub use read::read_commitments;
 pub use read::read_middle;
 pub use read::read_reply_five;

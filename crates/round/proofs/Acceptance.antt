@@ -41,7 +41,7 @@ module _ (b v : List ℕ) (ρ : Rhos) where
   opened-five : (α : ℕ) (s r0 t0 e0 : List ℕ) (challenge : ℕ) → challenge ≤ 1 → OpensFive (mapOf b) α v (cardFive (mapOf b) α s r0 t0 e0) challenge →
       acceptsFive b v (commitmentsFive b s r0 t0 e0 ρ) α (record { t1 = t1By (mapOf b) α r0 t0; e1 = e1By (mapOf b) α r0 e0 }) challenge
       (replyFive (qOf b) (nOf b) s r0 ρ challenge) ≡ true
-  unfolding acceptsFive commitmentsFive replyFive openingFive commitment Com cardFive r1Of mapOf
+  unfolding acceptsFive commitmentsFive replyFive openingFive Com cardFive r1Of mapOf
   opened-five α s r0 t0 e0 zero h o =
       same-by _ _ (ap₂ (λ (x y : List ℕ). Com five 0 (ρ .rho0) (take (nOf b) r0 ++ (take (nOf b) x ++ take (mOf b) y))) (o .zero-t refl) (o .zero-e refl))
   opened-five α s r0 t0 e0 (suc zero) h o =

@@ -13,7 +13,6 @@ use Rattle.commitment.specs.Commitment.{hashedString, Com}
 use Rattle.system.specs.System.{nOf, mOf}
 use Rattle.protocol.specs.Protocols.{r1Of, masked, t0By, e0By, unmaskedBy}
 use Rattle.protocol.specs.Rounds.{mapOf}
-use Rattle.round.specs.Pieces.{commitment}
 use Rattle.round.specs.declared.pieces.Rhos.{Rhos}
 use Rattle.round.specs.declared.pieces.Commitments.{Commitments}
 use Rattle.round.specs.declared.pieces.Middle.{Middle}
@@ -50,4 +49,4 @@ openingFive b α v sent challenge r =
 
 -- "A round is accepted exactly when its opening hashes right."
 unfoldable pub acceptsFive : List ℕ → List ℕ → Commitments → ℕ → Middle → ℕ → ReplyFive → Bool
-acceptsFive b v c α sent challenge r = same (sha256 (openingFive b α v sent challenge r)) (commitment c challenge)
+acceptsFive b v c α sent challenge r = same (sha256 (openingFive b α v sent challenge r)) (cond (eqb challenge 0) (c .c0) (c .c1))

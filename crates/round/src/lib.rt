@@ -1,11 +1,10 @@
-// One round of each protocol: what the card forms, commits to and replies, how a reply opens commitments and how it is
-// judged, and the simulator.
+// One round of each protocol: what the card and the simulator form, commit to and reply, and the strings with which a reply
+// opens commitments.
 //
-// But for the simulator's entry these functions refuse nothing: whoever calls them has checked the system, and takes the
+// These functions refuse nothing: whoever calls them has checked the system, and takes the
 // elements and challenges that document 01 allows. A challenge above its range is taken as the largest of it.
 mod card;
 mod five;
-mod judge;
 mod pieces;
 mod three;
 
@@ -15,8 +14,6 @@ pub use card::simulated;
 pub use five::commitments_five;
 pub use five::opening_five;
 pub use five::reply_five;
-pub use judge::accepts_five;
-pub use judge::accepts_three;
 pub use pieces::Commitments;
 pub use pieces::Middle;
 pub use pieces::ReplyFive;

@@ -111,7 +111,7 @@ fn opened_second(
 }
 
 // The numbers of the commitments that a reply opens.
-pub fn first_number(challenge: u8) -> u8
+fn first_number(challenge: u8) -> u8
     ensures { λ r. ⌜ r ≡ firstNumber challenge ⌝ }
 {
     match challenge {
@@ -120,7 +120,7 @@ pub fn first_number(challenge: u8) -> u8
     }
 }
 
-pub fn second_number(challenge: u8) -> u8
+fn second_number(challenge: u8) -> u8
     ensures { λ r. ⌜ r ≡ secondNumber challenge ⌝ }
 {
     match challenge {

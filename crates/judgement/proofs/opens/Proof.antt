@@ -1,7 +1,7 @@
 -- The test is of the digest. Assumes nothing.
 use borrow.Author.Needs.{needs}
-use Rattle.round.proofs.judge.opens.Statement.{statement}
-use Rattle.round.proofs.judge.opens.Tie as tie
+use Rattle.judgement.proofs.opens.Statement.{statement}
+use Rattle.judgement.proofs.opens.Tie as tie
 
 pub opens-spec : {M : Type 1} → statement M
 opens-spec =

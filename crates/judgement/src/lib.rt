@@ -1,39 +1,31 @@
-// The judgement of a reply: every opening must hash to its commitment.
-use crate::five::opening_five;
-use crate::pieces::Commitments;
-use crate::pieces::Middle;
-use crate::pieces::ReplyFive;
-use crate::pieces::ReplyThree;
-use crate::three::first_number;
-use crate::three::first_opening;
-use crate::three::second_number;
-use crate::three::second_opening;
+// The judgement of a reply: every opening must hash to its commitment. A round's check is where a copied card would get in.
+//
+// Whoever calls has checked the system.
 use commitment::Text;
 use commitment::digest;
+use round::Commitments;
+use round::Middle;
+use round::ReplyFive;
+use round::ReplyThree;
+use round::first_opening;
+use round::opening_five;
+use round::second_opening;
 use slices::byte_at;
 use slices::same32;
 ghost use mathlib.Core.Path.{_≡_};
 ghost use Prim.Native.Nat.{_≤_};
+ghost use mathlib.Core.Bool.{_&&_};
 ghost use lib.ListN.{take};
 ghost use Rattle.slices.specs.Slices.{same};
 ghost use Rattle.sha256.specs.Sha256.{sha256};
 ghost use Rattle.system.specs.System.{systemRefusal};
-ghost use Rattle.round.specs.Pieces.{commitment};
 ghost use Rattle.round.specs.ThreePass.{acceptsThree};
 ghost use Rattle.round.specs.FivePass.{acceptsFive};
 
-// Commitment k; the last for a number above.
-fn numbered(c: Commitments, k: u8) -> [u8; 32]
-    ensures { λ r. ⌜ r ≡ commitment c k ⌝ }
+fn both(a: bool, b: bool) -> bool
+    ensures { λ r. ⌜ r ≡ (a && b) ⌝ }
 {
-    let c0 = c.c0;
-    let c1 = c.c1;
-    let c2 = c.c2;
-    match k {
-        0 => c0,
-        1 => c1,
-        _ => c2,
-    }
+    if a { b } else { false }
 }
 
 // Whether a string hashes to a commitment.
@@ -57,11 +49,16 @@ pub fn accepts_three(
 {
     let n = byte_at(system, 1);
     let m = byte_at(system, 2);
+    let c0 = c.c0;
+    let c1 = c.c1;
+    let c2 = c.c2;
     let a = first_opening(system, v, challenge, reply);
     let b = second_opening(n, m, challenge, reply);
-    let first = opens(a, numbered(c, first_number(challenge)));
-    let second = opens(b, numbered(c, second_number(challenge)));
-    if first { second } else { false }
+    match challenge {
+        0 => both(opens(a, c1), opens(b, c2)),
+        1 => both(opens(a, c0), opens(b, c2)),
+        _ => both(opens(a, c0), opens(b, c1)),
+    }
 }
 
 // Five passes: the one opening.
@@ -77,6 +74,11 @@ pub fn accepts_five(
     requires { ⌜ systemRefusal (now system) ≡ 0 ⌝ }
     ensures { λ r. ⌜ r ≡ acceptsFive (now (system .entry)) v c alpha sent challenge reply ⌝ }
 {
+    let c0 = c.c0;
+    let c1 = c.c1;
     let t = opening_five(system, alpha, v, sent, challenge, reply);
-    opens(t, numbered(c, challenge))
+    match challenge {
+        0 => opens(t, c0),
+        _ => opens(t, c1),
+    }
 }

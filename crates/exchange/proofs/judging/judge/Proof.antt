@@ -2,8 +2,8 @@
 use borrow.Author.Tests.{ne-eqb}
 use Rattle.exchange.specs.Messages.{accepts}
 use borrow.Author.Needs.{needs}
-use Rattle.exchange.proofs.judgement.judge.Statement.{statement}
-use Rattle.exchange.proofs.judgement.judge.Tie as tie
+use Rattle.exchange.proofs.judging.judge.Statement.{statement}
+use Rattle.exchange.proofs.judging.judge.Tie as tie
 
 pub judge-spec : {M : Type 1} → statement M
 unfolding accepts
