@@ -11,6 +11,7 @@ use Rattle.round.specs.declared.pieces.Commitments.{Commitments}
 use Rattle.round.specs.declared.pieces.Middle.{Middle}
 use Rattle.round.specs.declared.pieces.ReplyThree.{ReplyThree}
 use Rattle.round.specs.declared.pieces.ReplyFive.{ReplyFive}
+use Rattle.exchange.specs.declared.read.Lent.{Lent}
 use Rattle.round.specs.ThreePass.{acceptsThree}
 use Rattle.round.specs.FivePass.{acceptsFive}
 
@@ -21,6 +22,16 @@ bytesAt place l = tabulate 32 (λ i. l ! (place + i))
 -- "Commitments: 32 bytes each, 3 or 2 a round."
 unfoldable pub commitmentsIn : List ℕ → Commitments
 commitmentsIn l = record { c0 = bytesAt 0 l; c1 = bytesAt 32 l; c2 = bytesAt 64 l }
+
+-- "Lent as one slice, in order: r0 (n), t0 (n), e0 (m), ρ0, ρ1, ρ2."
+unfoldable pub lentIn : ℕ → ℕ → List ℕ → Lent
+lentIn n m l =
+    record {
+      r0 = slotV n 0 l;
+      t0 = slotV n n l;
+      e0 = slotV m (n + n) l;
+      rhos = record { rho0 = bytesAt (n + n + m) l; rho1 = bytesAt (n + n + m + 32) l; rho2 = bytesAt (n + n + m + 64) l };
+    }
 
 -- "scheme 5, α, t1, e1"
 unfoldable pub middleIn : ℕ → ℕ → List ℕ → Middle

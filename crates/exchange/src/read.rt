@@ -4,9 +4,10 @@ use round::Commitments;
 use round::Middle;
 use round::ReplyFive;
 use round::ReplyThree;
+use round::Rhos;
 use slices::bytes32;
 ghost use mathlib.Core.Path.{_≡_};
-ghost use Rattle.exchange.specs.Messages.{commitmentsIn, middleIn, replyThreeIn, replyFiveIn};
+ghost use Rattle.exchange.specs.Messages.{commitmentsIn, lentIn, middleIn, replyThreeIn, replyFiveIn};
 
 // Two or three commitments of 32 bytes.
 pub fn read_commitments(s: &[u8]) -> Commitments
@@ -52,5 +53,32 @@ pub fn read_reply_five(s: &[u8], n: u8) -> ReplyFive
     ReplyFive {
         x: slot(s, 0, n),
         rho: bytes32(s, n as usize),
+    }
+}
+
+// What is lent to the card for a round; scheme 5 has no ρ2, which then reads as zero.
+pub struct Lent {
+    pub r0: [u8; 96],
+    pub t0: [u8; 96],
+    pub e0: [u8; 96],
+    pub rhos: Rhos,
+}
+
+pub fn read_lent(s: &[u8], n: u8, m: u8) -> Lent
+    ensures { λ r. ⌜ r ≡ lentIn n m (now (s .entry)) ⌝ }
+{
+    let after_r0 = n as usize;
+    let after_t0 = after_r0 + n as usize;
+    let after_e0 = after_t0 + m as usize;
+    let rhos = Rhos {
+        rho0: bytes32(s, after_e0),
+        rho1: bytes32(s, after_e0 + 32),
+        rho2: bytes32(s, after_e0 + 64),
+    };
+    Lent {
+        r0: slot(s, 0, n),
+        t0: slot(s, after_r0, n),
+        e0: slot(s, after_t0, m),
+        rhos: rhos,
     }
 }
