@@ -2,7 +2,10 @@
 use field::all_below;
 use field::is_field;
 ghost use mathlib.Core.Path.{_≡_};
-ghost use Rattle.system.specs.System.{width as widthOf, systemLength, isSize, areSizes, systemRefusal};
+ghost use Prim.Native.Nat.{_+_, _≤_};
+ghost use lib.ListN.{length, take, drop};
+ghost use Rattle.field.specs.Vector.{allBelow};
+ghost use Rattle.system.specs.System.{qOf, width as widthOf, systemLength, isSize, areSizes, systemRefusal};
 
 // The bytes of one polynomial in n unknowns.
 pub fn width(n: u8) -> usize
@@ -35,6 +38,14 @@ fn are_sizes(q: u8, n: u8, m: u8) -> bool
     }
 }
 
+// Whether the `count` bytes after the first three are elements.
+fn coefficients_below(system: &[u8], count: usize) -> bool
+    requires { ⌜ 3 + count ≤ length (now system) ⌝ }
+    ensures { λ r. ⌜ r ≡ allBelow (qOf (now (system .entry))) (take count (drop 3 (now (system .entry)))) ⌝ }
+{
+    all_below(system[0], &system[3..3 + count])
+}
+
 // Refuses a system's bytes: 0 where they are well-formed.
 pub fn check(system: &[u8]) -> u8
     ensures { λ r. ⌜ r ≡ systemRefusal (now (system .entry)) ⌝ }
@@ -48,7 +59,7 @@ pub fn check(system: &[u8]) -> u8
     if system.len() != system_length(system[1], system[2]) {
         return 2;
     }
-    if !all_below(system[0], &system[3..]) {
+    if !coefficients_below(system, system.len() - 3) {
         return 3;
     }
     0

@@ -59,13 +59,10 @@ check-spec =
     let e = c .before .before .before .before in
     refusal-by _ true true false _ (front e) (sizes e) (ne-eqb _ _ (λ (h : length (bytes e) ≡ systemLength (nOf (bytes e)) (mOf (bytes e))). c .if3 .taken (h ∙ sym (c .before .system-length .ensures)))) refl)
     (λ c. omega arith)
-    (λ c. omega arith)
-    (λ c. omega arith)
-    (λ c. omega arith)
-    (λ c κs. search needs)
+    (λ c κs. omega arith)
     (λ c.
-    let e = c .before .before .before .before in
-    refusal-by _ true true true false (front (e .before .before .before .before)) (sizes (e .before .before .before .before)) (whole e) (elements-are (bytes (e .before .before .before .before)) _ false (c .before .all-below .ensures) (not-true _ (c .if4 .taken))))
+    let e = c .before .before in
+    refusal-by _ true true true false (front (e .before .before .before .before)) (sizes (e .before .before .before .before)) (whole e) (elements-are (bytes (e .before .before .before .before)) _ false (c .before .coefficients-below .ensures) (not-true _ (c .if4 .taken))))
     (λ c.
-    let e = c .before .before .before .before in
-    refusal-by _ true true true true (front (e .before .before .before .before)) (sizes (e .before .before .before .before)) (whole e) (elements-are (bytes (e .before .before .before .before)) _ true (c .before .all-below .ensures) (not-false _ (c .if4 .left)))))
+    let e = c .before .before in
+    refusal-by _ true true true true (front (e .before .before .before .before)) (sizes (e .before .before .before .before)) (whole e) (elements-are (bytes (e .before .before .before .before)) _ true (c .before .coefficients-below .ensures) (not-false _ (c .if4 .left)))))
