@@ -1,5 +1,5 @@
 -- Refusals as numbers, 0 for none, in document 01's order: the first that applies is the answer.
-use Prim.Native.Nat.{ℕ}
+use Prim.Native.Nat.{ℕ, zero, suc}
 use mathlib.Core.Bool.{Bool, cond}
 use lib.Dec.{eqb}
 
@@ -11,6 +11,11 @@ unless test k = cond test 0 k
 -- the first of two that is no 0
 unfoldable pub _orElse_ : ℕ → ℕ → ℕ
 first orElse later = cond (eqb first 0) later first
+
+-- the first that is no 0 among refusal 0, .., refusal (n - 1)
+unfoldable pub firstOf : ℕ → (ℕ → ℕ) → ℕ
+firstOf zero refusal = 0
+firstOf (suc n) refusal = firstOf n refusal orElse refusal n
 
 -- what is refused stays as it was
 unfoldable pub kept : {A : Type 0} → ℕ → A → A → A

@@ -1,10 +1,10 @@
 -- Parts of a list, from s up to e: what stands in them, how long they are, and a list with a part of it replaced. Assumes nothing.
 use Prim.Native.Nat.{ℕ, _+_, _-_, _≤_, _<_}
 use mathlib.Core.Path.{_≡_, sym, ap, ap₂, _∙_}
-use mathlib.Core.List.{List, _++_, append-nil, append-assoc}
+use mathlib.Core.List.{List, [], _++_, append-nil, append-assoc}
 use native.Mathlib.Omega.{arith}
-use lib.ListN.{length, take, drop, length-append, length-drop, List·getD-append}
-use lib.Seq.{length-take-le, take-at, take-all, take-length, drop-length, getD-take, getD-drop, getD-append-add}
+use lib.ListN.{length, take, drop, length-append, length-drop, drop-of-length-le, List·getD-append}
+use lib.Seq.{length-take-le, take-at, take-all, take-nil, take-length, drop-length, getD-take, getD-drop, getD-append-add}
 use borrow.Rule.Slice.PartMut.{putMid, postOf, post-is}
 use Rattle.slices.specs.Slices.{_!_, placed}
 
@@ -13,6 +13,16 @@ part-at a s e i h = getD-take (e - s) (drop s a) i 0 h ∙ getD-drop s a i 0
 
 pub length-part : (a : List ℕ) (s e : ℕ) → s ≤ e → e ≤ length a → length (take (e - s) (drop s a)) ≡ e - s
 length-part a s e h k = length-take-le (e - s) (drop s a) (simp length-drop (omega arith))
+
+-- a part that starts beyond the end, and one that ends there
+pub part-none : (l : List ℕ) (place k : ℕ) → length l ≤ place → take k (drop place l) ≡ []
+part-none l place k beyond = ap (take k) (drop-of-length-le l beyond) ∙ take-nil k
+
+pub part-rest : (l : List ℕ) (place k j : ℕ) → length l ≤ place + k → length l ≤ place + j → take k (drop place l) ≡ take j (drop place l)
+part-rest l place k j hk hj = take-all k (drop place l) (short k hk) ∙ sym (take-all j (drop place l) (short j hj))
+  where
+    short : (i : ℕ) → length l ≤ place + i → length (drop place l) ≤ i
+    short i h = rw (length-drop place l) (omega arith)
 
 -- ---- a list with a part of it replaced
 

@@ -9,11 +9,11 @@ use lib.Seq.{ext-getD}
 use borrow.Author.Tests.{eqb-true, eq-eqb}
 use Rattle.slices.specs.Slices.{_!_, same}
 
-and-left : (a b : Bool) → (a && b) ≡ true → a ≡ true
+pub and-left : (a b : Bool) → (a && b) ≡ true → a ≡ true
 and-left true b e = refl
 and-left false b e = e
 
-and-right : (a b : Bool) → (a && b) ≡ true → b ≡ true
+pub and-right : (a b : Bool) → (a && b) ≡ true → b ≡ true
 and-right true b e = e
 and-right false b e = absurd (false≢true e)
 
@@ -35,6 +35,13 @@ same-by l k e = rw e (same-refl k)
 -- lists of one length that agree at each place, and lists that differ at one
 pub same-each : (l k : List ℕ) (n : ℕ) → length l ≡ n → length k ≡ n → ((i : ℕ) → i < n → l ! i ≡ k ! i) → same l k ≡ true
 same-each l k n hl hk each = same-by l k (ext-getD 0 l k (hl ∙ sym hk) (λ i h. each i (rw hl at h)))
+
+pub same-lengths : (l k : List ℕ) → (length l ≡ length k → ⊥) → same l k ≡ false
+same-lengths l k differ = go (same l k) refl
+  where
+    go : (t : Bool) → same l k ≡ t → same l k ≡ false
+    go true e = absurd (differ (ap length (same-true l k e)))
+    go false e = e
 
 pub same-differs : (l k : List ℕ) (i : ℕ) → (l ! i ≡ k ! i → ⊥) → same l k ≡ false
 same-differs l k i differ = go (same l k) refl

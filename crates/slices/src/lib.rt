@@ -1,7 +1,7 @@
 // Reading a slice of bytes by place, with no check left to the caller.
 ghost use mathlib.Core.Path.{_≡_};
 ghost use Prim.Native.Nat.{_+_, _≤_};
-ghost use lib.ListN.{length};
+ghost use lib.ListN.{length, take, drop};
 ghost use Rattle.slices.specs.Slices.{_!_, tabulate, same, placed};
 
 // The byte at place i, and 0 beyond the end.
@@ -47,6 +47,36 @@ pub fn same32(a: [u8; 32], b: [u8; 32]) -> bool
         i += 1;
     }
     true
+}
+
+// Whether two slices hold the same bytes.
+pub fn equal<'a>(a: &'a [u8], b: &'a [u8]) -> bool
+    ensures { λ r. ⌜ r ≡ same (now (a .entry)) (now (b .entry)) ⌝ }
+{
+    if a.len() != b.len() {
+        return false;
+    }
+    let mut i = 0;
+    while i < a.len() {
+        if a[i] != b[i] {
+            return false;
+        }
+        i += 1;
+    }
+    true
+}
+
+// At most `count` bytes from `at` on: what there is of them.
+pub fn part(s: &[u8], at: usize, count: usize) -> &[u8]
+    ensures { λ r. ⌜ now r ≡ take count (drop at (now (s .entry))) ⌝ }
+{
+    if s.len() <= at {
+        return &s[s.len()..];
+    }
+    if s.len() - at <= count {
+        return &s[at..];
+    }
+    &s[at..at + count]
 }
 
 // Puts s in the place of the bytes from `at` on.

@@ -1,7 +1,7 @@
 -- Laws of a system's layout: widths, where a row of coefficients starts, and what a system that is not refused is. Assumes nothing.
 use Prim.Native.Nat.{ℕ, zero, suc, _+_, _-_, _*_, _/_, _≤_, _<_}
 use mathlib.Core.Path.{_≡_, refl, sym, ap, subst, _∙_}
-use mathlib.Core.Bool.{Bool, true, false, false≢true, _&&_}
+use mathlib.Core.Bool.{Bool, true, _&&_}
 use mathlib.Core.List.{List, [], _∷_}
 use native.Mathlib.Nat.{mul-le-mul, mul-le-mul-right, le-trans, le-refl, not-suc-le-zero, eq-or-lt-of-le, le-of-suc-le-suc}
 use mathlib.Core.Logic.{⊎-elim}
@@ -11,6 +11,7 @@ use lib.Dec.{leb, ltb, eqb}
 use lib.ListN.{length, drop, length-drop}
 use borrow.Author.Tests.{leb-true, eqb-true, ltb-true, le-leb, eq-eqb, lt-ltb}
 use Rattle.slices.specs.Slices.{_!_}
+use Rattle.slices.proofs.Sameness.{and-left, and-right}
 use Rattle.refusal.specs.Refusal.{unless, _orElse_}
 use Rattle.refusal.proofs.Refusals.{first-zero, later-zero, test-holds}
 use Rattle.field.specs.Ops.{isField}
@@ -61,13 +62,27 @@ refusal-by b front sizes whole elements e f g h = rw (e, f, g, h)
 
 -- ---- a system that is not refused
 
-and-left : (a b : Bool) → (a && b) ≡ true → a ≡ true
-and-left true b e = refl
-and-left false b e = e
+-- q, n and m are among their values
+pub record Sizes (q n m : ℕ) : Type 0 where
+  pub is-field : isField q ≡ true
+  pub n-low : 1 ≤ n
+  pub n-high : n ≤ 96
+  pub m-low : 1 ≤ m
+  pub m-high : m ≤ 96
 
-and-right : (a b : Bool) → (a && b) ≡ true → b ≡ true
-and-right true b e = e
-and-right false b e = absurd (false≢true e)
+pub sizes : (q n m : ℕ) → areSizes q n m ≡ true → Sizes q n m
+unfolding areSizes isSize
+sizes q n m h =
+    let n-and-m = and-right (isField q) (isSize n && isSize m) h in
+    let n-size = and-left (isSize n) (isSize m) n-and-m in
+    let m-size = and-right (isSize n) (isSize m) n-and-m in
+    record {
+      is-field = and-left (isField q) (isSize n && isSize m) h;
+      n-low = leb-true 1 n (and-left (leb 1 n) (leb n 96) n-size);
+      n-high = leb-true n 96 (and-right (leb 1 n) (leb n 96) n-size);
+      m-low = leb-true 1 m (and-left (leb 1 m) (leb m 96) m-size);
+      m-high = leb-true m 96 (and-right (leb 1 m) (leb m 96) m-size);
+    }
 
 pub record Accepted (b : List ℕ) : Type 0 where
   pub front : 3 ≤ length b
@@ -80,32 +95,29 @@ pub record Accepted (b : List ℕ) : Type 0 where
   pub elements : allBelow (qOf b) (drop 3 b) ≡ true
 
 pub accepted : (b : List ℕ) → systemRefusal b ≡ 0 → Accepted b
-unfolding systemRefusal systemLength areSizes isSize
+unfolding systemRefusal systemLength
 accepted b h =
-    let sizes = test-holds (areSizes (qOf b) (nOf b) (mOf b)) 1 tt (first-zero _ _ (later-zero _ _ h)) in
-    let n-and-m = and-right (isField (qOf b)) (isSize (nOf b) && isSize (mOf b)) sizes in
-    let n-size = and-left (isSize (nOf b)) (isSize (mOf b)) n-and-m in
-    let m-size = and-right (isSize (nOf b)) (isSize (mOf b)) n-and-m in
+    let k = sizes (qOf b) (nOf b) (mOf b) (test-holds (areSizes (qOf b) (nOf b) (mOf b)) 1 tt (first-zero _ _ (later-zero _ _ h))) in
     record {
       front = leb-true 3 (length b) (test-holds (leb 3 (length b)) 2 tt (first-zero _ _ h));
-      is-field = and-left (isField (qOf b)) (isSize (nOf b) && isSize (mOf b)) sizes;
-      n-low = leb-true 1 (nOf b) (and-left (leb 1 (nOf b)) (leb (nOf b) 96) n-size);
-      n-high = leb-true (nOf b) 96 (and-right (leb 1 (nOf b)) (leb (nOf b) 96) n-size);
-      m-low = leb-true 1 (mOf b) (and-left (leb 1 (mOf b)) (leb (mOf b) 96) m-size);
-      m-high = leb-true (mOf b) 96 (and-right (leb 1 (mOf b)) (leb (mOf b) 96) m-size);
+      is-field = k .is-field;
+      n-low = k .n-low;
+      n-high = k .n-high;
+      m-low = k .m-low;
+      m-high = k .m-high;
       whole = eqb-true (length b) (systemLength (nOf b) (mOf b)) (test-holds _ 2 tt (first-zero _ _ (later-zero _ _ (later-zero _ _ h))));
       elements = test-holds (allBelow (qOf b) (drop 3 b)) 3 tt (later-zero _ _ (later-zero _ _ (later-zero _ _ h)));
     }
 
 -- ---- not refused is well-formed
 
-all-below-at : (q : ℕ) (s : List ℕ) → allBelow q s ≡ true → (i : ℕ) → i < length s → s ! i < q
+pub all-below-at : (q : ℕ) (s : List ℕ) → allBelow q s ≡ true → (i : ℕ) → i < length s → s ! i < q
 unfolding allBelow
 all-below-at q [] e i h = absurd (not-suc-le-zero h)
 all-below-at q (x ∷ s) e zero h = ltb-true x q (and-left (ltb x q) (allBelow q s) e)
 all-below-at q (x ∷ s) e (suc i) h = all-below-at q s (and-right (ltb x q) (allBelow q s) e) i (le-of-suc-le-suc h)
 
-at-all-below : (q : ℕ) (s : List ℕ) → ((i : ℕ) → i < length s → s ! i < q) → allBelow q s ≡ true
+pub at-all-below : (q : ℕ) (s : List ℕ) → ((i : ℕ) → i < length s → s ! i < q) → allBelow q s ≡ true
 unfolding allBelow
 at-all-below q [] each = refl
 at-all-below q (x ∷ s) each =
@@ -137,7 +149,7 @@ size-true : (k : ℕ) → (1 ≤ k) × (k ≤ 96) → isSize k ≡ true
 unfolding isSize
 size-true k h = rw (le-leb 1 k (h .0), le-leb k 96 (h .1))
 
-sizes-true : (q n m : ℕ) → isField q ≡ true → (1 ≤ n) × (n ≤ 96) → (1 ≤ m) × (m ≤ 96) → areSizes q n m ≡ true
+pub sizes-true : (q n m : ℕ) → isField q ≡ true → (1 ≤ n) × (n ≤ 96) → (1 ≤ m) × (m ≤ 96) → areSizes q n m ≡ true
 unfolding areSizes
 sizes-true q n m e hn hm = rw (e, size-true n hn, size-true m hm)
 

@@ -28,7 +28,8 @@ fn is_size(k: u8) -> bool
     if 1 <= k { k <= 96 } else { false }
 }
 
-fn are_sizes(q: u8, n: u8, m: u8) -> bool
+// Whether q, n and m are among their values.
+pub fn are_sizes(q: u8, n: u8, m: u8) -> bool
     ensures { λ r. ⌜ r ≡ areSizes q n m ⌝ }
 {
     if is_field(q) {

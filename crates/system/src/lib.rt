@@ -4,6 +4,7 @@
 // outside its values, 2 for a wrong length, 3 for a byte that is no element: the first that applies.
 mod layout;
 
+pub use layout::are_sizes;
 pub use layout::check;
 pub use layout::system_length;
 pub use layout::width;

@@ -1,0 +1,3 @@
+pub mod Readings
+pub mod RecordLayout
+pub mod ValidForm

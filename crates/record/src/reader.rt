@@ -1,0 +1,94 @@
+// The reader.
+use crate::form::Check;
+use crate::form::are_values;
+use crate::form::exchanges_refusal;
+use crate::layout::Body;
+use crate::layout::Header;
+use crate::layout::Layout;
+use crate::layout::laid_out;
+use crate::layout::record_length;
+use crate::layout::table;
+use field::all_below;
+use refusal::first;
+use refusal::unless;
+use slices::byte_at;
+use slices::equal;
+use slices::part;
+ghost use mathlib.Core.Path.{_≡_};
+ghost use lib.ListN.{take, drop};
+ghost use Rattle.slices.specs.Slices.{same};
+ghost use Rattle.refusal.specs.Refusal.{unless as unlessOf, _orElse_};
+ghost use Rattle.record.specs.declared.form.Check.the-variants.{FileOrder};
+ghost use Rattle.record.specs.Record.{table as tableOf};
+ghost use Rattle.record.specs.Reader.{headerIn, bodyIn, recordRefusal, refusalOf, readingOf};
+
+// The answer to a record: where its bodies stand, or why it is refused.
+pub enum Reading {
+    Good(Layout),
+    Refused(u8),
+}
+
+// The values behind the edition.
+fn header_of(bytes: &[u8]) -> Header
+    ensures { λ r. ⌜ r ≡ headerIn (now (bytes .entry)) ⌝ }
+{
+    Header {
+        scheme: byte_at(bytes, 1),
+        q: byte_at(bytes, 2),
+        n: byte_at(bytes, 3),
+        m: byte_at(bytes, 4),
+        rounds: byte_at(bytes, 5),
+    }
+}
+
+// The bytes of a body, as many as there are.
+pub fn body_of(bytes: &[u8], body: Body) -> &[u8]
+    ensures { λ r. ⌜ now r ≡ bodyIn body (now (bytes .entry)) ⌝ }
+{
+    part(bytes, body.offset, body.length)
+}
+
+// Whether the table of contents is the one that belongs to the header.
+fn table_matches(bytes: &[u8], h: Header) -> bool
+    ensures { λ r. ⌜ r ≡ same (take 24 (drop 6 (now (bytes .entry)))) (tableOf h) ⌝ }
+{
+    let expected = table(h);
+    equal(part(bytes, 6, 24), &expected)
+}
+
+// The refusal of a record's bytes, 0 for none.
+fn record_refusal(bytes: &[u8]) -> u8
+    ensures { λ r. ⌜ r ≡ recordRefusal (now (bytes .entry)) ⌝ }
+{
+    let h = header_of(bytes);
+    let l = laid_out(h);
+    let front = first(
+        unless(30 <= bytes.len(), 6),
+        unless(byte_at(bytes, 0) == 1, 6),
+    );
+    let whole = first(
+        unless(table_matches(bytes, h), 6),
+        unless(bytes.len() == record_length(h), 6),
+    );
+    let key = unless(all_below(h.q, body_of(bytes, l.key)), 3);
+    let exchanges = exchanges_refusal(Check::FileOrder, h, body_of(bytes, l.exchanges));
+    first(
+        front,
+        first(
+            unless(are_values(h), 1),
+            first(whole, first(key, exchanges)),
+        ),
+    )
+}
+
+// Reads a record: any bytes.
+pub fn read(bytes: &[u8]) -> Reading
+    ensures { λ r. ⌜ (r ≡ readingOf (now (bytes .entry))) × (refusalOf r ≡ recordRefusal (now (bytes .entry))) ⌝ }
+{
+    let refused = record_refusal(bytes);
+    if refused == 0 {
+        Reading::Good(laid_out(header_of(bytes)))
+    } else {
+        Reading::Refused(refused)
+    }
+}
