@@ -111,6 +111,11 @@ valid-fields b none =
     between : (a n : ℕ) → a + n ≤ length b → length (take n (drop a b)) ≡ n
     between a n within = length-take-le n (drop a b) (rw (length-drop a b) (omega arith))
 
+-- the length is the one of its fields' header
+pub whole-fields : (b : List ℕ) → recordRefusal b ≡ 0 → length b ≡ recordLength (fieldsIn b .header)
+unfolding fieldsIn layoutOf
+whole-fields b none = accepted b none .whole
+
 pub well-formed : (b : List ℕ) → recordRefusal b ≡ 0 → WellFormedRecord b
 well-formed b none = record { fields = fieldsIn b; valid = valid-fields b none; laid-out = sym (written-fields b none) }
 
@@ -167,7 +172,7 @@ pub fields-written : (f : Fields) → Valid f → fieldsIn (written f) ≡ f
 unfolding fieldsIn layoutOf
 fields-written f v = simp (header-written f, key-written f v, commitments-written f v, exchanges-written f v)
 
-length-written : (f : Fields) → Valid f → length (written f) ≡ recordLength (f .header)
+pub length-written : (f : Fields) → Valid f → length (written f) ≡ recordLength (f .header)
 unfolding written recordLength
 length-written f v =
     simp
@@ -179,7 +184,7 @@ table-written f =
     ap (take 24) (append-assoc (table (f .header) ++ f .key) (f .commitments) (f .exchanges) ∙ append-assoc (table (f .header)) (f .key) (f .commitments ++ f .exchanges)) ∙
     take-at (table (f .header)) (f .key ++ (f .commitments ++ f .exchanges)) 24 (length-table (f .header))
 
-header-values-of : (f : Fields) → Valid f → Values (f .header)
+pub header-values-of : (f : Fields) → Valid f → Values (f .header)
 header-values-of f v =
     record {
       scheme-value = v .scheme-value;
@@ -207,8 +212,8 @@ accepted-written f v =
       whole = length-written f v ∙ ap recordLength (sym h);
       key-below = ap₂ allBelow (ap (λ (k : Header). k .q) h) (ap (λ (g : Fields). g .key) (fields-written f v)) ∙ at-all-below (f .header .q) (f .key) (v .key-elements);
       exchanges-good =
-        ap₂ (exchangesRefusal FileOrder) h (ap (λ (g : Fields). g .exchanges) (fields-written f v)) ∙
-        each-zero FileOrder (f .header) (f .exchanges) (v .each-exchange);
+          ap₂ (exchangesRefusal FileOrder) h (ap (λ (g : Fields). g .exchanges) (fields-written f v)) ∙
+          each-zero FileOrder (f .header) (f .exchanges) (v .each-exchange);
     }
 
 pub written-accepted : (f : Fields) → Valid f → recordRefusal (written f) ≡ 0

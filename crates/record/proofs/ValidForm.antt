@@ -43,11 +43,12 @@ pub values-true : (h : Header) → Values h → areValues h ≡ true
 unfolding areValues isRounds
 values-true h v =
     let s = v .sizes-value in
-    simp
-    (v .scheme-value,
+    simp (
+      v .scheme-value,
       sizes-true (h .q) (h .n) (h .m) (s .is-field) (s .n-low, s .n-high) (s .m-low, s .m-high),
       le-leb 1 (h .rounds) (v .rounds-value .0),
-      le-leb (h .rounds) 255 (v .rounds-value .1))
+      le-leb (h .rounds) 255 (v .rounds-value .1),
+    )
 
 -- ---- an exchange
 

@@ -1,0 +1,32 @@
+-- One branch: what is refused stays, else the record is written. Assumes nothing.
+use Prim.Native.Nat.{ℕ, _+_}
+use mathlib.Core.Path.{_≡_, refl, sym, _∙_}
+use mathlib.Core.List.{List}
+use native.Mathlib.Omega.{arith}
+use lib.ListN.{length}
+use Rattle.refusal.specs.Refusal.{kept}
+use Rattle.refusal.proofs.Refusals.{kept-refused, kept-accepted}
+use Rattle.record.specs.Record.{Fields, recordLength}
+use Rattle.record_writer.specs.Writer.{writeRefusal}
+use Rattle.record_writer.proofs.RoundTrip.{taken}
+use borrow.Author.Needs.{needs}
+use Rattle.record_writer.proofs.write.Statement.{statement}
+use Rattle.record_writer.proofs.write.Tie as tie
+
+-- an output that is not refused has room for all
+room : (f : Fields) (out : ℕ) → writeRefusal f out ≡ 0 → out ≡ 30 + length (f .key) + length (f .commitments) + length (f .exchanges)
+unfolding recordLength
+room f out none =
+    let t = taken f out none in
+    let v = t .valid in
+    t .exact ∙ omega (arith, v .key-length, v .commitments-length, v .exchanges-length)
+
+pub write-spec : {M : Type 1} → statement M
+write-spec =
+    tie.close
+    (tie.spec
+    (λ c κs. search needs)
+    (λ c. (c .before .write-refusal .ensures, sym (kept-refused _ _ _ (c .if1 .taken))))
+    (λ c κs. room _ _ (sym (c .before .before .write-refusal .ensures) ∙ c .before .if1 .left))
+    (λ c. search needs)
+    (λ c. (sym (c .before .before .before .before .if1 .left) ∙ c .before .before .before .before .before .write-refusal .ensures, c .before .before .put-record .ensures ∙ sym (kept-accepted 0 _ _ refl))))
