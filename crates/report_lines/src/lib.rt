@@ -91,6 +91,6 @@ pub fn refused_line(text: &mut [u8], at: usize, refusal: u8) -> usize
     requires { ⌜ at + 32 ≤ length (now text) ⌝ }
     ensures { λ r. ⌜ (now (text .exit) ≡ placed (now (text .entry)) «at» (refusedLine refusal)) × (r ≡ at + length (refusedLine refusal)) × (r ≤ at + 32) ⌝ }
 {
-    let next = append_number(text, at, b"refused ", refusal);
-    append(text, next, b"\n")
+    let end = append_number(text, at, b"refused ", refusal);
+    append(text, end, b"\n")
 }
