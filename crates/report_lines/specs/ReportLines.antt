@@ -61,16 +61,20 @@ verdictWord accepted = cond accepted acceptWord rejectWord
 
 -- ---- lines
 
+-- a word and a number behind it
+unfoldable pub numbered : List ℕ → ℕ → List ℕ
+numbered word k = word ++ decimal k
+
 -- "Fields: round from 1, challenge (scheme 5 the same, α not shown), accept or reject": `round 1 challenge 2 accept`
 unfoldable pub roundLine : ℕ → ℕ → Bool → List ℕ
 roundLine round challenge accepted =
-    (roundWord ++ decimal round) ++ (challengeWord ++ decimal challenge) ++ (spaceWord ++ verdictWord accepted) ++ lineFeed
+    numbered roundWord round ++ numbered challengeWord challenge ++ (spaceWord ++ verdictWord accepted) ++ lineFeed
 
 -- "verdict (accept only if all), accepted rounds, N": `verdict accept 1 of 1`
 unfoldable pub verdictLine : ℕ → ℕ → List ℕ
 verdictLine accepted rounds =
-    (verdictStart ++ verdictWord (eqb accepted rounds)) ++ (spaceWord ++ decimal accepted) ++ (ofWord ++ decimal rounds) ++ lineFeed
+    (verdictStart ++ verdictWord (eqb accepted rounds)) ++ (numbered spaceWord accepted ++ numbered ofWord rounds) ++ lineFeed
 
 -- "A refusal prints only `refused` and its number."
 unfoldable pub refusedLine : ℕ → List ℕ
-refusedLine refusal = (refusedWord ++ decimal refusal) ++ lineFeed
+refusedLine refusal = numbered refusedWord refusal ++ lineFeed

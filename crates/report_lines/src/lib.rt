@@ -8,7 +8,7 @@ ghost use mathlib.Core.List.{_++_};
 ghost use Prim.Native.Nat.{_+_, _≤_};
 ghost use lib.ListN.{length};
 ghost use Rattle.slices.specs.Slices.{placed};
-ghost use Rattle.report_lines.specs.ReportLines.{lastDigit, decimal, verdictWord, roundLine, verdictLine, refusedLine};
+ghost use Rattle.report_lines.specs.ReportLines.{lastDigit, decimal, numbered, verdictWord, roundLine, verdictLine, refusedLine};
 
 // The ASCII code of a number's last digit.
 fn last_digit(k: u8) -> u8
@@ -45,10 +45,19 @@ fn append_decimal(text: &mut [u8], at: usize, k: u8) -> usize
 // Puts a word and a number.
 fn append_number(text: &mut [u8], at: usize, word: &[u8], k: u8) -> usize
     requires { ⌜ at + length (now word) + 3 ≤ length (now text) ⌝ }
-    ensures { λ r. ⌜ (now (text .exit) ≡ placed (now (text .entry)) «at» (now (word .entry) ++ decimal k)) × (r ≡ at + length (now (word .entry) ++ decimal k)) × (r ≤ at + length (now (word .entry)) + 3) ⌝ }
+    ensures { λ r. ⌜ (now (text .exit) ≡ placed (now (text .entry)) «at» (numbered (now (word .entry)) k)) × (r ≡ at + length (numbered (now (word .entry)) k)) × (r ≤ at + length (now (word .entry)) + 3) ⌝ }
 {
     let next = append(text, at, word);
     append_decimal(text, next, k)
+}
+
+// Puts two words, each with a number.
+fn append_numbers(text: &mut [u8], at: usize, first: &[u8], k: u8, second: &[u8], j: u8) -> usize
+    requires { ⌜ at + length (now first) + length (now second) + 6 ≤ length (now text) ⌝ }
+    ensures { λ r. ⌜ (now (text .exit) ≡ placed (now (text .entry)) «at» (numbered (now (first .entry)) k ++ numbered (now (second .entry)) j)) × (r ≡ at + length (numbered (now (first .entry)) k ++ numbered (now (second .entry)) j)) × (r ≤ at + length (now (first .entry)) + length (now (second .entry)) + 6) ⌝ }
+{
+    let next = append_number(text, at, first, k);
+    append_number(text, next, second, j)
 }
 
 // Puts a word, and `accept` or `reject`.
@@ -69,8 +78,7 @@ pub fn round_line(text: &mut [u8], at: usize, round: u8, challenge: u8, accepted
     requires { ⌜ at + 32 ≤ length (now text) ⌝ }
     ensures { λ r. ⌜ (now (text .exit) ≡ placed (now (text .entry)) «at» (roundLine round challenge accepted)) × (r ≡ at + length (roundLine round challenge accepted)) × (r ≤ at + 32) ⌝ }
 {
-    let next = append_number(text, at, b"round ", round);
-    let next = append_number(text, next, b" challenge ", challenge);
+    let next = append_numbers(text, at, b"round ", round, b" challenge ", challenge);
     let next = append_verdict(text, next, b" ", accepted);
     append(text, next, b"\n")
 }
@@ -81,8 +89,7 @@ pub fn verdict_line(text: &mut [u8], at: usize, accepted: u8, rounds: u8) -> usi
     ensures { λ r. ⌜ (now (text .exit) ≡ placed (now (text .entry)) «at» (verdictLine accepted rounds)) × (r ≡ at + length (verdictLine accepted rounds)) × (r ≤ at + 32) ⌝ }
 {
     let next = append_verdict(text, at, b"verdict ", accepted == rounds);
-    let next = append_number(text, next, b" ", accepted);
-    let next = append_number(text, next, b" of ", rounds);
+    let next = append_numbers(text, next, b" ", accepted, b" of ", rounds);
     append(text, next, b"\n")
 }
 

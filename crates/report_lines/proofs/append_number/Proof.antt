@@ -1,11 +1,13 @@
 -- The number behind the word. Assumes nothing.
 use native.Mathlib.Omega.{arith}
+use Rattle.report_lines.specs.ReportLines.{numbered}
 use Rattle.report_lines.proofs.Appending.{appended-both}
 use borrow.Author.Needs.{needs}
 use Rattle.report_lines.proofs.append_number.Statement.{statement}
 use Rattle.report_lines.proofs.append_number.Tie as tie
 
 pub append-number-spec : {M : Type 1} → statement M
+unfolding numbered
 append-number-spec =
     tie.close
     (tie.spec

@@ -1,7 +1,7 @@
--- Each piece behind the last. Assumes nothing.
+-- Verdict, numbers and line feed, each behind the last. Assumes nothing.
 use native.Mathlib.Omega.{arith}
 use Rattle.report_lines.specs.ReportLines.{verdictStart, spaceWord, ofWord, lineFeed, verdictLine}
-use Rattle.report_lines.proofs.Appending.{appended-both}
+use Rattle.report_lines.proofs.Appending.{appended-line}
 use borrow.Author.Needs.{needs}
 use Rattle.report_lines.proofs.verdict_line.Statement.{statement}
 use Rattle.report_lines.proofs.verdict_line.Tie as tie
@@ -14,18 +14,12 @@ verdict-line-spec =
     (λ c. search needs)
     (λ c κs. search needs)
     (λ c. search needs)
-    (λ c κs. search needs)
     (λ c. search needs)
     (λ c κs. search needs)
     (λ c. search needs)
     (λ c κs. search needs)
     (λ c. search needs)
     (λ c.
-    let verdict = c .before .before .before .before .before .before .before .before .before .before .before .before .before .before .before .before .before .append-verdict .ensures in
-    let accepted = c .before .before .before .before .before .before .before .before .before .before .before .before .append-number .ensures in
-    let rounds = c .before .before .before .before .before .before .before .append-number2 .ensures in
-    let end = c .before .before .append .ensures in
-    let two = appended-both _ _ _ _ (omega arith) (verdict .0, verdict .1) (accepted .0, accepted .1) in
-    let three = appended-both _ _ _ _ (omega arith) two (rounds .0, rounds .1) in
-    let put = appended-both _ _ _ _ (omega arith) three end in
-    (put .0, put .1, omega arith)))
+    let verdict = c .before .before .before .before .before .before .before .before .before .before .before .before .before .append-verdict .ensures in
+    let numbers = c .before .before .before .before .before .before .before .append-numbers .ensures in
+    appended-line _ _ _ _ _ (omega arith) (omega arith) (omega arith) (verdict .0, verdict .1) (numbers .0, numbers .1) (c .before .before .append .ensures)))
