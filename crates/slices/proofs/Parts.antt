@@ -1,10 +1,10 @@
 -- Parts of a list, from s up to e: what stands in them, how long they are, and a list with a part of it replaced. Assumes nothing.
 use Prim.Native.Nat.{ℕ, _+_, _-_, _≤_, _<_}
-use mathlib.Core.Path.{_≡_, sym, ap, ap₂, _∙_}
+use mathlib.Core.Path.{_≡_, refl, sym, ap, ap₂, _∙_}
 use mathlib.Core.List.{List, [], _++_, append-nil, append-assoc}
 use native.Mathlib.Omega.{arith}
 use lib.ListN.{length, take, drop, length-append, length-drop, drop-of-length-le, List·getD-append}
-use lib.Seq.{length-take-le, take-at, take-all, take-nil, take-length, drop-length, getD-take, getD-drop, getD-append-add}
+use lib.Seq.{length-take-le, take-at, drop-at, take-all, take-nil, take-length, drop-length, drop-drop, getD-take, getD-drop, getD-append-add}
 use borrow.Rule.Slice.PartMut.{putMid, postOf, post-is}
 use Rattle.slices.specs.Slices.{_!_, placed}
 
@@ -67,3 +67,19 @@ placed-next done s l r place next written room e er =
 
 pub placed-all : (done r : List ℕ) (next : ℕ) → take next r ≡ done → length r ≡ next → r ≡ done
 placed-all done r next written long = sym (take-all next r (omega arith)) ∙ written
+
+-- what stands behind the piece stays
+placed-rest : (l r s : List ℕ) (place next : ℕ) → place + length s ≤ length l → next ≡ place + length s → r ≡ placed l place s → drop next r ≡ drop next l
+unfolding placed
+placed-rest l r s place next room e er =
+    ap₂ drop e (er ∙ sym (append-assoc (take place l) s (drop (place + length s) l))) ∙
+    drop-at (take place l ++ s) (drop (place + length s) l) (place + length s) (simp (length-append, length-take-le place l (omega arith))) ∙
+    ap (λ (k : ℕ). drop k l) (sym e)
+
+-- a piece behind another is both in one
+pub placed-append : (l k r s t : List ℕ) (place next : ℕ) → place + length s ≤ length l → next ≡ place + length s → k ≡ placed l place s → r ≡ placed k next t → r ≡ placed l place (s ++ t)
+unfolding placed
+placed-append l k r s t place next room e ek er =
+    let rest = sym (drop-drop (length t) next k) ∙ ap (drop (length t)) (placed-rest l k s place next room e ek) ∙ drop-drop (length t) next l in
+    let end : next + length t ≡ place + length (s ++ t) = simp length-append (omega arith) in
+    er ∙ ap₂ (λ (h d : List ℕ). h ++ (t ++ d)) (placed-next (take place l) s l k place next refl room e ek) rest ∙ simp (end, append-assoc)

@@ -1,0 +1,30 @@
+-- Lines of the report, as antt computes them. Assumes nothing.
+use mathlib.Core.Path.{_≡_, refl}
+use mathlib.Core.Bool.{true, false}
+use mathlib.Core.List.{[], _∷_}
+use Rattle.report_lines.specs.ReportLines.{lastDigit, decimal, numbered, roundWord, challengeWord, spaceWord, acceptWord, rejectWord, verdictStart, ofWord, refusedWord, lineFeed, verdictWord, roundLine, verdictLine, refusedLine}
+
+-- round 1 challenge 2 accept
+pub worked-round : roundLine 1 2 true ≡ 114 ∷ 111 ∷ 117 ∷ 110 ∷ 100 ∷ 32 ∷ 49 ∷ 32 ∷ 99 ∷ 104 ∷ 97 ∷ 108 ∷ 108 ∷ 101 ∷ 110 ∷ 103 ∷ 101 ∷ 32 ∷ 50 ∷ 32 ∷ 97 ∷ 99 ∷ 99 ∷ 101 ∷ 112 ∷ 116 ∷ 10 ∷ []
+unfolding roundLine roundWord challengeWord spaceWord verdictWord acceptWord rejectWord lineFeed numbered decimal lastDigit
+worked-round = refl
+
+-- round 255 challenge 0 reject
+pub last-round : roundLine 255 0 false ≡ 114 ∷ 111 ∷ 117 ∷ 110 ∷ 100 ∷ 32 ∷ 50 ∷ 53 ∷ 53 ∷ 32 ∷ 99 ∷ 104 ∷ 97 ∷ 108 ∷ 108 ∷ 101 ∷ 110 ∷ 103 ∷ 101 ∷ 32 ∷ 48 ∷ 32 ∷ 114 ∷ 101 ∷ 106 ∷ 101 ∷ 99 ∷ 116 ∷ 10 ∷ []
+unfolding roundLine roundWord challengeWord spaceWord verdictWord acceptWord rejectWord lineFeed numbered decimal lastDigit
+last-round = refl
+
+-- verdict accept 1 of 1
+pub worked-verdict : verdictLine 1 1 ≡ 118 ∷ 101 ∷ 114 ∷ 100 ∷ 105 ∷ 99 ∷ 116 ∷ 32 ∷ 97 ∷ 99 ∷ 99 ∷ 101 ∷ 112 ∷ 116 ∷ 32 ∷ 49 ∷ 32 ∷ 111 ∷ 102 ∷ 32 ∷ 49 ∷ 10 ∷ []
+unfolding verdictLine verdictStart ofWord spaceWord verdictWord acceptWord rejectWord lineFeed numbered decimal lastDigit
+worked-verdict = refl
+
+-- verdict reject 99 of 100
+pub one-rejected : verdictLine 99 100 ≡ 118 ∷ 101 ∷ 114 ∷ 100 ∷ 105 ∷ 99 ∷ 116 ∷ 32 ∷ 114 ∷ 101 ∷ 106 ∷ 101 ∷ 99 ∷ 116 ∷ 32 ∷ 57 ∷ 57 ∷ 32 ∷ 111 ∷ 102 ∷ 32 ∷ 49 ∷ 48 ∷ 48 ∷ 10 ∷ []
+unfolding verdictLine verdictStart ofWord spaceWord verdictWord acceptWord rejectWord lineFeed numbered decimal lastDigit
+one-rejected = refl
+
+-- refused 2
+pub too-long : refusedLine 2 ≡ 114 ∷ 101 ∷ 102 ∷ 117 ∷ 115 ∷ 101 ∷ 100 ∷ 32 ∷ 50 ∷ 10 ∷ []
+unfolding refusedLine refusedWord lineFeed numbered decimal lastDigit
+too-long = refl
