@@ -8,6 +8,7 @@ use scheme::exchange_length;
 use scheme::is_rounds;
 use scheme::is_scheme;
 use scheme::middle_length;
+use scheme::of_rounds;
 use scheme::vectors_length;
 use slices::byte_at;
 use slices::part;
@@ -62,7 +63,7 @@ pub fn exchanges_refusal(check: Check, h: Header, exchanges: &[u8]) -> u8
     let mut refused = 0;
     let mut r = 0;
     while r < rounds {
-        let at = r as usize * each;
+        let at = of_rounds(r, each);
         let found = exchange_refusal(check, h, part(exchanges, at, each));
         refused = first(refused, found);
         r += 1;

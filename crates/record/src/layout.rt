@@ -1,9 +1,10 @@
 // Where the bodies of a record stand, and the table of contents that says so.
 use scheme::commitments_length;
 use scheme::exchange_length;
+use scheme::of_rounds;
 use slices::put;
 ghost use mathlib.Core.Path.{_≡_};
-ghost use Prim.Native.Nat.{_+_, _*_, _≤_};
+ghost use Prim.Native.Nat.{_+_, _≤_};
 ghost use lib.ListN.{length};
 ghost use Rattle.record.specs.Record.{layoutOf, recordLength, entry as entryOf, table as tableOf};
 
@@ -29,14 +30,6 @@ pub struct Layout {
     pub key: Body,
     pub commitments: Body,
     pub exchanges: Body,
-}
-
-// So many bytes a round.
-fn of_rounds(rounds: u8, each: usize) -> usize
-    requires { ⌜ each ≤ 1341 ⌝ }
-    ensures { λ r. ⌜ (r ≡ rounds * each) × (r ≤ 341955) ⌝ }
-{
-    rounds as usize * each
 }
 
 pub fn laid_out(h: Header) -> Layout

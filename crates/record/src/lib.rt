@@ -18,4 +18,5 @@ pub use layout::record_length;
 pub use layout::table;
 pub use reader::Reading;
 pub use reader::body_of;
+pub use reader::header_of;
 pub use reader::read;

@@ -29,7 +29,7 @@ pub enum Reading {
 }
 
 // The values behind the edition.
-fn header_of(bytes: &[u8]) -> Header
+pub fn header_of(bytes: &[u8]) -> Header
     ensures { λ r. ⌜ r ≡ headerIn (now (bytes .entry)) ⌝ }
 {
     Header {

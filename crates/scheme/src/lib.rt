@@ -2,7 +2,7 @@
 //
 // Every function is total; a scheme other than 3 is taken as 5, and every entry refuses one that is neither first.
 ghost use mathlib.Core.Path.{_≡_};
-ghost use Prim.Native.Nat.{_≤_};
+ghost use Prim.Native.Nat.{_*_, _≤_};
 ghost use Rattle.scheme.specs.Scheme.{isScheme, isRounds, challenges as challengesOf, commitmentsLength, middleLength, vectorsLength, rhosLength, replyLength, exchangeLength};
 
 pub fn is_scheme(scheme: u8) -> bool
@@ -77,4 +77,12 @@ pub fn exchange_length(scheme: u8, n: u8, m: u8) -> usize
     ensures { λ r. ⌜ (r ≡ exchangeLength scheme n m) × (r ≤ 1341) ⌝ }
 {
     middle_length(scheme, n, m) + (1 + reply_length(scheme, n, m))
+}
+
+// The bytes of so many rounds: also where, among the bytes of all rounds, the next one starts.
+pub fn of_rounds(rounds: u8, each: usize) -> usize
+    requires { ⌜ each ≤ 1341 ⌝ }
+    ensures { λ r. ⌜ (r ≡ rounds * each) × (r ≤ 341955) ⌝ }
+{
+    rounds as usize * each
 }

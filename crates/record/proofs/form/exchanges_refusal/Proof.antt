@@ -1,7 +1,6 @@
 -- The invariant: the first refusal over the rounds before r. Assumes nothing.
 use Prim.Native.Nat.{ℕ, _-_, _*_, _≤_}
 use mathlib.Core.Path.{_≡_, ap, ap₂, _∙_}
-use native.Mathlib.Nat.{mul-le-mul}
 use native.Mathlib.Omega.{arith}
 use mathlib.Core.List.{List}
 use lib.ListN.{take, drop}
@@ -22,9 +21,6 @@ Inv-loop check h exchanges each rounds refused₀ r₀ refused r =
 abbrev μ-loop : tie.MeasureT-loop
 μ-loop check h exchanges each rounds refused₀ r₀ refused r = rounds - r
 
-bound : (r each : ℕ) → r ≤ 255 → each ≤ 1341 → r * each ≤ 341955
-bound r each h k = mul-le-mul h k
-
 end : (check : Check) (h : Header) (exchanges : List ℕ) (each refused r : ℕ) →
     refused ≡ firstOf r (λ (k : ℕ). exchangeRefusal check h (take each (drop (k * each) exchanges))) → r ≡ h .rounds → each ≡ exchangeLength h →
     refused ≡ exchangesRefusal check h exchanges
@@ -41,12 +37,11 @@ exchanges-refusal-spec =
     μ-loop
     (λ c κs. search needs)
     (λ c. (omega arith, omega arith, omega arith, firstOf-zero _))
-    (λ c. search needs)
-    (λ c. omega (arith, bound (c .before .loop .r) (c .before .before .exchange-length .result) (omega arith) (omega arith)))
+    (λ c κs. c .before .loop .inv .2)
     (λ c κs. search needs)
     (λ c κs. search needs)
     (λ c κs. search needs)
     (λ c. omega arith)
     (λ c. omega arith)
-    (λ c. (omega arith, omega arith, omega arith, c .first .ensures ∙ firstOf-step _ _ _ _ (c .before .before .before .before .loop .inv .3) (c .before .exchange-refusal .ensures ∙ ap (exchangeRefusal _ _) (c .before .before .part .ensures))))
+    (λ c. (omega arith, omega arith, omega arith, c .first .ensures ∙ firstOf-step _ _ _ _ (c .before .before .before .before .before .loop .inv .3) (c .before .exchange-refusal .ensures ∙ ap (exchangeRefusal _ _) (c .before .before .part .ensures ∙ ap (λ (k : ℕ). take (c .before .before .before .before .before .before .exchange-length .result) (drop k (c .before .before .before .before .before .before .before .before .args .exchanges .now))) (c .before .before .before .of-rounds .ensures .0)))))
     (λ c. end _ _ _ _ _ _ (c .before .loop .inv .3) (omega arith) (c .before .before .exchange-length .ensures .0)))

@@ -3,8 +3,8 @@ use Prim.Native.Nat.{ℕ, _*_, _≤_}
 use mathlib.Core.Path.{refl}
 use native.Mathlib.Nat.{mul-le-mul}
 use native.Mathlib.Omega.{arith}
-use Rattle.record.proofs.layout.of_rounds.Statement.{statement}
-use Rattle.record.proofs.layout.of_rounds.Tie as tie
+use Rattle.scheme.proofs.of_rounds.Statement.{statement}
+use Rattle.scheme.proofs.of_rounds.Tie as tie
 
 bound : (rounds each : ℕ) → rounds ≤ 255 → each ≤ 1341 → rounds * each ≤ 341955
 bound rounds each h k = mul-le-mul h k

@@ -1,0 +1,39 @@
+-- The rounds of a record, counted from 0: their messages, and whether each is accepted.
+use Prim.Native.Nat.{ℕ, zero, suc, _+_, _*_}
+use mathlib.Core.Bool.{Bool, cond}
+use mathlib.Core.List.{List}
+use lib.ListN.{length, take, drop}
+use Rattle.slices.specs.Slices.{_!_}
+use Rattle.field.specs.Vector.{vector}
+use Rattle.scheme.specs.Scheme as S
+use Rattle.record.specs.Record.{exchangeOf, middleOf, challengeOf, replyOf}
+use Rattle.record.specs.Reader.{headerIn, fieldsIn}
+use Rattle.exchange.specs.Messages.{accepts}
+
+-- "Key: v."
+unfoldable pub keyVector : List ℕ → List ℕ
+keyVector b = vector (length (fieldsIn b .key)) (λ i. fieldsIn b .key ! i)
+
+-- "Commitments: 32 bytes each, 3 or 2 a round."
+unfoldable pub roundCommitments : List ℕ → ℕ → List ℕ
+roundCommitments b r =
+    let each = S.commitmentsLength (headerIn b .scheme) in
+    take each (drop (r * each) (fieldsIn b .commitments))
+
+-- "Exchange: scheme 3, challenge byte and reply; scheme 5, α, t1, e1, challenge byte, reply."
+unfoldable pub roundExchange : List ℕ → ℕ → List ℕ
+roundExchange b r = exchangeOf (headerIn b) (fieldsIn b .exchanges) r
+
+unfoldable pub roundChallenge : List ℕ → ℕ → ℕ
+roundChallenge b r = challengeOf (headerIn b) (roundExchange b r)
+
+-- the round is accepted by the check of its scheme, for the system and the record's key
+unfoldable pub acceptedRound : List ℕ → List ℕ → ℕ → Bool
+acceptedRound system b r =
+    accepts system (headerIn b .scheme) (keyVector b) (roundCommitments b r)
+    (middleOf (headerIn b) (roundExchange b r)) (roundChallenge b r) (replyOf (headerIn b) (roundExchange b r))
+
+-- how many of the first n rounds are accepted
+unfoldable pub acceptedCount : List ℕ → List ℕ → ℕ → ℕ
+acceptedCount system b zero = 0
+acceptedCount system b (suc n) = acceptedCount system b n + cond (acceptedRound system b n) 1 0

@@ -1,0 +1,102 @@
+// The rounds of a record, counted from 0: their messages, and whether each is accepted.
+//
+// Nothing here refuses: of a record that is too short, what there is of a message is given. Whoever takes a record from
+// outside reads it first.
+use exchange::judge;
+use field::from_slice;
+use record::body_of;
+use record::header_of;
+use record::laid_out;
+use scheme::commitments_length;
+use scheme::exchange_length;
+use scheme::middle_length;
+use scheme::of_rounds;
+use scheme::reply_length;
+use slices::byte_at;
+use slices::part;
+ghost use mathlib.Core.Path.{_≡_};
+ghost use Rattle.system.specs.System.{systemRefusal};
+ghost use Rattle.record.specs.Record.{middleOf, replyOf};
+ghost use Rattle.record.specs.Reader.{headerIn};
+ghost use Rattle.transcript.specs.Transcript.{keyVector, roundCommitments, roundExchange, roundChallenge, acceptedRound};
+
+// v.
+pub fn key_vector(bytes: &[u8]) -> [u8; 96]
+    ensures { λ r. ⌜ r ≡ keyVector (now (bytes .entry)) ⌝ }
+{
+    from_slice(body_of(bytes, laid_out(header_of(bytes)).key))
+}
+
+// The commitments of a round.
+pub fn round_commitments(bytes: &[u8], r: u8) -> &[u8]
+    ensures { λ s. ⌜ now s ≡ roundCommitments (now (bytes .entry)) r ⌝ }
+{
+    let h = header_of(bytes);
+    let each = commitments_length(h.scheme);
+    part(
+        body_of(bytes, laid_out(h).commitments),
+        of_rounds(r, each),
+        each,
+    )
+}
+
+// The exchange of a round.
+pub fn round_exchange(bytes: &[u8], r: u8) -> &[u8]
+    ensures { λ s. ⌜ now s ≡ roundExchange (now (bytes .entry)) r ⌝ }
+{
+    let h = header_of(bytes);
+    let each = exchange_length(h.scheme, h.n, h.m);
+    part(
+        body_of(bytes, laid_out(h).exchanges),
+        of_rounds(r, each),
+        each,
+    )
+}
+
+// What of an exchange stands before the challenge.
+pub fn round_middle(bytes: &[u8], r: u8) -> &[u8]
+    ensures { λ s. ⌜ now s ≡ middleOf (headerIn (now (bytes .entry))) (roundExchange (now (bytes .entry)) r) ⌝ }
+{
+    let h = header_of(bytes);
+    part(
+        round_exchange(bytes, r),
+        0,
+        middle_length(h.scheme, h.n, h.m),
+    )
+}
+
+// The challenge of a round.
+pub fn round_challenge(bytes: &[u8], r: u8) -> u8
+    ensures { λ k. ⌜ k ≡ roundChallenge (now (bytes .entry)) r ⌝ }
+{
+    let h = header_of(bytes);
+    byte_at(round_exchange(bytes, r), middle_length(h.scheme, h.n, h.m))
+}
+
+// The reply of a round.
+pub fn round_reply(bytes: &[u8], r: u8) -> &[u8]
+    ensures { λ s. ⌜ now s ≡ replyOf (headerIn (now (bytes .entry))) (roundExchange (now (bytes .entry)) r) ⌝ }
+{
+    let h = header_of(bytes);
+    part(
+        round_exchange(bytes, r),
+        middle_length(h.scheme, h.n, h.m) + 1,
+        reply_length(h.scheme, h.n, h.m),
+    )
+}
+
+// Whether a round is accepted.
+pub fn accepts_round<'a>(system: &'a [u8], bytes: &'a [u8], r: u8) -> bool
+    requires { ⌜ systemRefusal (now system) ≡ 0 ⌝ }
+    ensures { λ a. ⌜ a ≡ acceptedRound (now (system .entry)) (now (bytes .entry)) r ⌝ }
+{
+    judge(
+        system,
+        header_of(bytes).scheme,
+        key_vector(bytes),
+        round_commitments(bytes, r),
+        round_middle(bytes, r),
+        round_challenge(bytes, r),
+        round_reply(bytes, r),
+    )
+}
