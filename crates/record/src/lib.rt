@@ -20,3 +20,4 @@ pub use reader::Reading;
 pub use reader::body_of;
 pub use reader::header_of;
 pub use reader::read;
+pub use reader::refusal_of;

@@ -92,3 +92,13 @@ pub fn read(bytes: &[u8]) -> Reading
         Reading::Refused(refused)
     }
 }
+
+// The number of the refusal, 0 for none.
+pub fn refusal_of(reading: Reading) -> u8
+    ensures { λ r. ⌜ r ≡ refusalOf reading ⌝ }
+{
+    match reading {
+        Reading::Good(_) => 0,
+        Reading::Refused(number) => number,
+    }
+}
