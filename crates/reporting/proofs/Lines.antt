@@ -1,0 +1,69 @@
+-- The text of a report grows by a line a round. Assumes nothing.
+use Prim.Native.Nat.{ℕ, zero, suc, _+_, _*_, _≤_}
+use mathlib.Core.Path.{_≡_, refl, sym, ap, ap₂, _∙_}
+use mathlib.Core.Bool.{Bool, true, false, cond}
+use mathlib.Core.List.{List, [], _++_}
+use native.Mathlib.Omega.{arith}
+use native.Mathlib.Numerals.{add-one}
+use lib.ListN.{length, length-append}
+use Rattle.slices.specs.Slices.{placed}
+use Rattle.slices.proofs.Parts.{placed-append}
+use Rattle.record.specs.Reader.{headerIn}
+use Rattle.transcript.specs.Transcript.{roundChallenge, acceptedRound, acceptedCount}
+use Rattle.report_lines.specs.ReportLines.{roundLine, verdictLine}
+use Rattle.reporting.specs.Report.{roundLines, judgedText}
+
+-- the lines of the first r rounds stand at the front of a text, and are so long
+pub record Written (system b start text : List ℕ) (place r : ℕ) : Type 0 where
+  pub lines : text ≡ placed start 0 (roundLines system b r)
+  pub long : place ≡ length (roundLines system b r)
+  pub room : place ≤ 32 * r
+
+pub lines-start : (system b start : List ℕ) → Written system b start start 0 0
+unfolding roundLines placed
+lines-start system b start = record { lines = refl; long = refl; room = omega arith }
+
+-- behind them stands one line more
+behind : (system b start text after line : List ℕ) (place r : ℕ) → Written system b start text place r → length start ≡ 8192 → r ≤ 255 →
+    after ≡ placed text place line → after ≡ placed start 0 (roundLines system b r ++ line)
+behind system b start text after line place r w size few e =
+    placed-append start text after (roundLines system b r) line 0 place (omega (arith, w .long, w .room)) (omega (arith, w .long)) (w .lines) e
+
+pub lines-step : (system b start text after : List ℕ) (place next r challenge : ℕ) (accepted : Bool) → Written system b start text place r → length start ≡ 8192 → r ≤ 255 →
+    challenge ≡ roundChallenge b r → accepted ≡ acceptedRound system b r → after ≡ placed text place (roundLine (r + 1) challenge accepted) →
+    next ≡ place + length (roundLine (r + 1) challenge accepted) → next ≤ place + 32 → Written system b start after next (r + 1)
+unfolding roundLines
+lines-step system b start text after place next r challenge accepted w size few ec ea e long near =
+    let line = roundLine (r + 1) challenge accepted in
+    let is-line : line ≡ roundLine (r + 1) (roundChallenge b r) (acceptedRound system b r) = ap₂ (roundLine (r + 1)) ec ea in
+    record {
+      lines = rw (add-one) (behind system b start text after line place r w size few e ∙ ap (λ (l : List ℕ). placed start 0 (roundLines system b r ++ l)) is-line);
+      long =
+          rw (add-one)
+          (long ∙ ap (λ (k : ℕ). k + length line) (w .long) ∙ sym (length-append (roundLines system b r) line) ∙
+          ap (λ (l : List ℕ). length (roundLines system b r ++ l)) is-line);
+      room = omega (arith, w .room, near);
+    }
+
+pub count-start : (system b : List ℕ) → 0 ≡ acceptedCount system b 0
+unfolding acceptedCount
+count-start system b = refl
+
+pub count-step : (system b : List ℕ) (count next r : ℕ) (accepted : Bool) → count ≡ acceptedCount system b r → accepted ≡ acceptedRound system b r →
+    next ≡ count + cond accepted 1 0 → next ≡ acceptedCount system b (r + 1)
+unfolding acceptedCount
+count-step system b count next r accepted ec ea en = rw (add-one) (en ∙ ap₂ (λ (k : ℕ) (t : Bool). k + cond t 1 0) ec ea)
+
+-- the verdict stands behind the last round's line
+pub text-end : (system b start text after : List ℕ) (place next count rounds r : ℕ) → Written system b start text place r → length start ≡ 8192 → r ≤ 255 →
+    r ≡ rounds → rounds ≡ headerIn b .rounds → count ≡ acceptedCount system b r → after ≡ placed text place (verdictLine count rounds) →
+    next ≡ place + length (verdictLine count rounds) → next ≤ place + 32 →
+    (after ≡ placed start 0 (judgedText system b)) × (next ≡ length (judgedText system b)) × (next ≤ 8192)
+unfolding judgedText
+text-end system b start text after place next count rounds r w size few last all ec e long near =
+    let whole : roundLines system b r ++ verdictLine count rounds ≡ roundLines system b (headerIn b .rounds) ++ verdictLine (acceptedCount system b (headerIn b .rounds)) (headerIn b .rounds) =
+    simp (ec, last, all) in (
+      behind system b start text after (verdictLine count rounds) place r w size few e ∙ ap (placed start 0) whole,
+      long ∙ ap (λ (k : ℕ). k + length (verdictLine count rounds)) (w .long) ∙ sym (length-append (roundLines system b r) (verdictLine count rounds)) ∙ ap length whole,
+      omega (arith, w .room),
+    )
