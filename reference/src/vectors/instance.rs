@@ -18,6 +18,12 @@ impl Shape {
         Shape { q, n, m }
     }
 
+    /// The shape that a system says.
+    pub fn of(system: &Piece) -> Shape {
+        let head = system.expanded();
+        Shape::new(head[0], head[1], head[2])
+    }
+
     pub fn n(self) -> usize {
         usize::from(self.n)
     }
@@ -38,9 +44,7 @@ impl Shape {
 
     /// The same cut or extended to a length, which has room for the head.
     pub fn system_of_length(self, pattern: &[u8], length: usize) -> Piece {
-        let body = Piece::repeated(pattern, length);
-        let head = [self.q, self.n, self.m].into_iter().enumerate();
-        head.fold(body, |piece, (offset, byte)| piece.patched(offset, byte))
+        Piece::repeated(pattern, length).overwritten(0, &[self.q, self.n, self.m])
     }
 
     /// A system of this shape with a random pattern.
