@@ -3,7 +3,7 @@
 use super::case::Call;
 use super::piece::Piece;
 use crate::random::Generator;
-use crate::system::{length, width};
+use crate::system::{length, width, MOST};
 
 /// q, n and m as a system's head has them.
 #[derive(Clone, Copy, Debug)]
@@ -54,7 +54,7 @@ impl Shape {
 
     /// Random elements, as many as a prime that no two rows of a system have the same part of.
     pub fn random_pattern(self, random: &mut Generator) -> Vec<u8> {
-        self.random_elements(random, period(width(self.n())))
+        self.random_elements(random, prime(MOST.into(), width(self.n())))
     }
 
     /// A vector of n random elements.
@@ -77,10 +77,10 @@ impl Shape {
     }
 }
 
-/// The least prime above 96 that does not divide the row's width. So rows l and k begin at the same
-/// place of the pattern only if the prime divides l - k, which is less.
-pub fn period(width: usize) -> usize {
-    (97..)
+/// The least prime above the number of rows that does not divide a row's width. So rows l and k begin
+/// at the same place of a pattern of that length only if the prime divides l - k, which is less.
+pub fn prime(rows: usize, width: usize) -> usize {
+    (rows + 1..)
         .find(|&number| is_prime(number) && !width.is_multiple_of(number))
         .expect("primes go on")
 }

@@ -376,7 +376,7 @@ fn edges(lengths: &[usize]) -> Vec<usize> {
 }
 
 /// None, one too few, one too many and the others, without the right one and repeats.
-fn wrong_lengths(right: usize, others: &[usize]) -> Vec<usize> {
+pub fn wrong_lengths(right: usize, others: &[usize]) -> Vec<usize> {
     let mut lengths = [&[0, right - 1, right + 1], others].concat();
     lengths.sort_unstable();
     lengths.dedup();
