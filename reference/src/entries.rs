@@ -67,8 +67,8 @@ pub fn write(arguments: Write) -> u8 {
     number(try_write(arguments))
 }
 
-/// Where a record's bodies are, into `out`: its header, then offset and length of key, commitments and
-/// exchanges, 4 bytes each, the lowest first.
+/// Where a record's bodies are, into `out`: its header, then offset and length of key, commitments
+/// and exchanges, 4 bytes each, the lowest first.
 pub fn read(record: &[u8], out: &mut [u8; BODIES]) -> u8 {
     number(try_read(record, out))
 }

@@ -1,5 +1,5 @@
-//! Document 01, "Session record": the layout, what is written and what is read. Rounds are not judged
-//! here, and `entries` has the writer's refusals.
+//! Document 01, "Session record": the layout, what is written and what is read. Rounds are not
+//! judged here, and `entries` has the writer's refusals.
 
 use crate::layout::parts;
 use crate::refusal::{unless, Refusal};
@@ -73,8 +73,8 @@ impl Header {
         vec![EDITION, scheme.byte(), size.field.order(), n, m, rounds]
     }
 
-    /// The lengths of an exchange's parts: α, t1, e1, of which three passes have none; the challenge;
-    /// the reply.
+    /// The lengths of an exchange's parts: α, t1, e1, of which three passes have none; the
+    /// challenge; the reply.
     fn exchange_parts(self) -> [usize; 3] {
         let Header { scheme, size, .. } = self;
         [scheme.middle_length(size), 1, scheme.reply_length(size)]
@@ -198,8 +198,8 @@ pub fn write(layout: Layout, key: &[u8], commitments: &[u8], exchanges: &[u8]) -
     [&layout.front(), key, commitments, exchanges].concat()
 }
 
-/// Where a record's bodies are. Refusals in order: 6 for the size or the edition, 1, 6 for the table
-/// or the length, then 3 or 4 for the first bad byte.
+/// Where a record's bodies are. Refusals in order: 6 for the size or the edition, 1, 6 for the
+/// table or the length, then 3 or 4 for the first bad byte.
 pub fn read(record: &[u8]) -> Result<Layout, Refusal> {
     unless(record.len() >= BODIES, Refusal::Record)?;
     let [edition, numbers @ ..] = first(record);

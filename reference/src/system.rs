@@ -66,8 +66,8 @@ impl System {
         })
     }
 
-    /// The system that the bytes begin with, which ends where its own q, n, m say, and the rest. The
-    /// same refusals, where only too few bytes are a wrong length.
+    /// The system that the bytes begin with, which ends where its own q, n, m say, and the rest.
+    /// The same refusals, where only too few bytes are a wrong length.
     pub fn read_first(bytes: &[u8]) -> Result<(System, &[u8]), Refusal> {
         let Dimensions { n, m, .. } = Dimensions::of_head(bytes)?;
         unless(bytes.len() >= length(n, m), Refusal::Length)?;

@@ -236,7 +236,7 @@ fn read_in_order() {
     }
 }
 
-/// Of an element and a challenge the first bad one counts for the reader, the element for the writer.
+/// Of an element and a challenge the reader goes by the first bad one, the writer by the element.
 #[test]
 fn first_bad_byte() {
     for (scheme, elements) in [
@@ -266,7 +266,7 @@ fn first_bad_byte() {
     }
 }
 
-/// Document 01's unmarked cases: N = 0 gives 1 and 255 passes, q = 4, n = 97, the elements 250 and 251.
+/// Document 01's unmarked cases: N = 0 gives 1 and 255 passes; q = 4; n = 97; elements 250, 251.
 #[test]
 fn unmarked() {
     let of = |header: [u8; 5]| {

@@ -12,8 +12,8 @@ use std::iter::repeat;
 /// unwritten is seen.
 pub const FILL: u8 = 255;
 
-/// The most bytes that the programs' buffers take: a message, a system, a record or a part of it, the
-/// report's input and text, any other piece.
+/// The most bytes that the programs' buffers take: a message, a system, a record or a body of it,
+/// the report's input and text, any other piece.
 const MOST_OF_MESSAGE: usize = 66_000;
 const MOST_OF_SYSTEM: usize = 500_000;
 const MOST_OF_RECORD: usize = 131_072;

@@ -77,8 +77,8 @@ impl Shape {
     }
 }
 
-/// The least prime above the number of rows that does not divide a row's width. So rows l and k begin
-/// at the same place of a pattern of that length only if the prime divides l - k, which is less.
+/// The least prime above the number of rows that does not divide a row's width. So rows l and k
+/// begin at the same place of a pattern of that length only if it divides l - k, which is less.
 pub fn prime(rows: usize, width: usize) -> usize {
     (rows + 1..)
         .find(|&number| is_prime(number) && !width.is_multiple_of(number))

@@ -50,8 +50,8 @@ impl Piece {
         places.fold(self, |piece, (place, &byte)| piece.patched(place, byte))
     }
 
-    /// These bytes by the pattern of a piece that they end with, patched wherever they differ from it;
-    /// or as they are, if that is shorter.
+    /// These bytes by the pattern of a piece that they end with, patched wherever they differ from
+    /// it; or as they are, if that is shorter.
     pub fn ending_with(bytes: &[u8], end: &Piece) -> Piece {
         let literal = Piece::literal(bytes);
         if end.length == 0 {

@@ -148,8 +148,8 @@ fn every_length(scheme: Scheme) -> Vec<Piece> {
     records
 }
 
-/// Editions, and each number of the header at and outside its edges. The first way the record is laid
-/// out as the header says, where it says so; the other way only the number is changed.
+/// Editions, and each number of the header at and outside its edges: with all else laid out as the
+/// header says, if it is good, and with nothing else changed.
 fn headers(scheme: Scheme) -> Vec<Piece> {
     let mut random = Generator::from_seed(86);
     let good = header(scheme, Shape::new(7, 2, 3), 2);
@@ -181,25 +181,19 @@ pub const HEADER_VALUES: [(usize, &[u8]); 5] = [
     (4, &[0, 1, 2, 3, 254, 255]),
 ];
 
-/// Tables that overlap, leave gaps or wrap, most of them with the right end.
+/// Tables that overlap, leave gaps or wrap, most of them with the right end; some also with a byte
+/// more at the end.
 fn tables(scheme: Scheme) -> Vec<Piece> {
     let (good, layout) = small(scheme);
+    let longer = [&good[..], &[0]].concat();
     let right = [layout.key, layout.commitments, layout.exchanges];
     let right = right.map(|body| [number(body.offset), number(body.length)]);
-    let mut tables = changed_numbers(right);
-    tables.extend(moved_bodies(right));
-    let mut records: Vec<Piece> = tables
-        .iter()
-        .map(|table| with_table(&good, table))
-        .collect();
-    let longer = [&good[..], &[0]].concat();
-    records.extend(
-        tables
-            .iter()
-            .take(6)
-            .map(|table| with_table(&longer, table)),
-    );
-    records
+    let (changed, moved) = (changed_numbers(right), moved_bodies(right));
+    let other = [changed.clone(), moved.clone(), other_orders(right)].concat();
+    let of_longer = [&changed[..6], &moved].concat();
+    let records = other.iter().map(|table| with_table(&good, table));
+    let of_longer = of_longer.iter().map(|table| with_table(&longer, table));
+    records.chain(of_longer).collect()
 }
 
 /// Offset and length of each body.
@@ -222,7 +216,7 @@ fn with_table(record: &[u8], table: &Table) -> Piece {
 }
 
 /// Each of the six numbers changed: one more first, then one less, by a bit of each byte, its bytes
-/// the other way round, none, the largest.
+/// the other way round, 0, the largest.
 fn changed_numbers(right: Table) -> Vec<Table> {
     let changes: [fn(u32) -> u32; 9] = [
         |n| n + 1,
@@ -247,57 +241,50 @@ fn changed_numbers(right: Table) -> Vec<Table> {
     tables
 }
 
-/// Two or more numbers changed so that sums still agree.
-fn moved_bodies([key, commitments, exchanges]: Table) -> Vec<Table> {
-    let moved = |[offset, length]: [u32; 2], by: u32, more: u32| {
-        [offset.wrapping_add(by), length.wrapping_add(more)]
-    };
-    let less_one = u32::MAX;
-    let end_to_start = 0u32.wrapping_sub(exchanges[0]);
+/// What is added to offset and length of key, commitments and exchanges, modulo 2^32.
+const MOVES: [[i32; 6]; 14] = [
+    // A byte handed on from one body to the next, and back.
+    [0, 1, 1, -1, 0, 0],
+    [0, -1, -1, 1, 0, 0],
+    [0, 0, 0, 1, 1, -1],
+    [0, 0, 0, -1, -1, 1],
+    // All bodies one byte on, the last one shorter; offsets from the first body.
+    [1, 0, 1, 0, 1, -1],
+    [-30, 0, -30, 0, -30, 0],
+    // A gap before the key or the commitments, and as many bytes more in all.
+    [1, 0, 1, 0, 1, 0],
+    [0, 0, 1, 0, 1, 0],
+    // A gap before a body or a piece of the one before it, the ends kept.
+    [0, 0, 1, -1, 0, 0],
+    [0, 0, -1, 1, 0, 0],
+    [0, 0, 0, 0, -1, 1],
+    // A body that ends 2^32 after its end.
+    [-41, 41, 0, 0, 0, 0],
+    [0, 0, -201, 201, 0, 0],
+    [0, 0, 0, 0, i32::MIN, i32::MIN],
+];
+
+fn moved_bodies(right: Table) -> Vec<Table> {
+    let tables = MOVES.map(|moves| {
+        let mut table = right;
+        for (number, by) in table.as_flattened_mut().iter_mut().zip(moves) {
+            *number = number.wrapping_add_signed(by);
+        }
+        table
+    });
+    tables.to_vec()
+}
+
+/// Bodies, entries, or offset and length in another order; and the exchanges from byte 0 on.
+fn other_orders([key, commitments, exchanges]: Table) -> Vec<Table> {
+    let after = [key[0] + commitments[1], key[1]];
+    let before = [key[0], commitments[1]];
     vec![
-        // A byte handed on from one body to the next, and back.
-        [moved(key, 0, 1), moved(commitments, 1, less_one), exchanges],
-        [
-            moved(key, 0, less_one),
-            moved(commitments, less_one, 1),
-            exchanges,
-        ],
-        [key, moved(commitments, 0, 1), moved(exchanges, 1, less_one)],
-        [
-            key,
-            moved(commitments, 0, less_one),
-            moved(exchanges, less_one, 1),
-        ],
-        // All bodies one byte on, the last one shorter.
-        [
-            moved(key, 1, 0),
-            moved(commitments, 1, 0),
-            moved(exchanges, 1, less_one),
-        ],
-        // A gap and an overlap, the ends kept.
-        [key, moved(commitments, 1, less_one), exchanges],
-        [key, moved(commitments, less_one, 1), exchanges],
-        [key, commitments, moved(exchanges, less_one, 1)],
-        // Another order of the bodies, of the entries, of offset and length.
-        [
-            [30 + commitments[1], key[1]],
-            [30, commitments[1]],
-            exchanges,
-        ],
+        [after, before, exchanges],
         [commitments, key, exchanges],
         [exchanges, commitments, key],
         [key, commitments, exchanges].map(|[offset, length]| [length, offset]),
-        // An offset and a length whose sum is 2^32 and the right end.
-        [moved(key, less_one - 40, 41), commitments, exchanges],
-        [key, moved(commitments, less_one - 200, 201), exchanges],
-        [key, commitments, moved(exchanges, 1 << 31, 1 << 31)],
-        [
-            key,
-            commitments,
-            moved(exchanges, end_to_start, exchanges[0]),
-        ],
-        // Offsets from the table's end.
-        [key, commitments, exchanges].map(|body| moved(body, 0u32.wrapping_sub(30), 0)),
+        [key, commitments, [0, exchanges[0] + exchanges[1]]],
     ]
 }
 

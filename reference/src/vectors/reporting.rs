@@ -79,8 +79,8 @@ fn sizes(scheme: Scheme) -> Vec<Vec<u8>> {
     inputs
 }
 
-/// Honest sessions at the edges of the numbers' lengths, and the longest, q in turn; of some the last
-/// round rejected too.
+/// Honest sessions at the edges of the numbers' lengths, and the longest, q in turn; some with the
+/// last round rejected too.
 fn counts(scheme: Scheme) -> Vec<Vec<u8>> {
     let mut random = Generator::from_seed(92);
     let mut orders = ORDERS.iter().cycle();
@@ -177,8 +177,8 @@ fn changed(input: &[u8], changes: &[(usize, u8)]) -> Vec<u8> {
     input
 }
 
-/// The small key's input cut at every place, the empty input and a system alone among them, and with
-/// a byte after it.
+/// The small key's input cut at every place, the empty input and a system alone among them, and
+/// with a byte after it.
 fn every_length(scheme: Scheme) -> Vec<Vec<u8>> {
     let good = small(scheme, 0).input();
     let cut = (0..good.len()).map(|length| good[..length].to_vec());
@@ -291,8 +291,8 @@ fn refused_records(scheme: Scheme) -> Vec<Vec<u8>> {
     inputs
 }
 
-/// Records with the system of another q, n or m, good ones and ones with a fault of their own; and the
-/// same numbers with other coefficients.
+/// Records with the system of another q, n or m, good ones and ones with a fault of their own; and
+/// with the same numbers but other coefficients.
 fn other_systems(scheme: Scheme) -> Vec<Vec<u8>> {
     let mut random = Generator::from_seed(95);
     let shapes = [

@@ -114,8 +114,8 @@ impl Part {
     }
 }
 
-/// The parts of a record's bodies in file order: the key, the commitments, then round by round those
-/// of the exchange.
+/// The parts of a record's bodies in file order: the key, the commitments, then round by round
+/// those of the exchange.
 pub fn parts(layout: Layout) -> Vec<Part> {
     use Holds::{Anything, Challenge, Elements};
     let Header { scheme, size, .. } = layout.header;
@@ -160,7 +160,7 @@ pub fn places(layout: Layout, holds: Holds) -> Vec<usize> {
     parts.map(|part| part.start).collect()
 }
 
-/// A record in short form, well-formed but of no card: elements over and over, the challenges in turn.
+/// A record in short form, well-formed but of no card: elements over and over, challenges in turn.
 pub fn patterned(random: &mut Generator, header: [u8; 5]) -> Piece {
     let layout = layout(header);
     let pattern = elements(random, layout);

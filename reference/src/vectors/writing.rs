@@ -122,8 +122,8 @@ fn refused_numbers(scheme: Scheme) -> Vec<Writing> {
     writings
 }
 
-/// Each slice with a wrong length: none, one too few or too many, that of one round more or fewer, of
-/// another slice, of the other scheme.
+/// Each slice with a wrong length: none, one too few or too many, one commitment, one round more or
+/// fewer, or that of another slice.
 fn refused_lengths(scheme: Scheme) -> Vec<Writing> {
     let mut writings = Vec::new();
     for (shape, rounds) in [

@@ -126,8 +126,8 @@ fn every_case_answers_as_it_says() {
     }
 }
 
-/// The numbers that a program's cases answer. The calls of `round_vectors` are never refused; 1 is a
-/// judgement's accept. A report's text says its refusal.
+/// The numbers that a program's cases answer. The calls of `round_vectors` are never refused; 1 is
+/// a judgement's accept. A report's text says its refusal.
 fn numbers_of(program: &str) -> &[usize] {
     match program {
         "sha256_vectors" => &[0, 2],
