@@ -2,12 +2,13 @@
 //!
 //! Document 01, "Refused because of the state", has their order: the system first, then the
 //! arguments left to right, all 1, all 2, all 3, then 4. Outputs count as arguments with an exact
-//! length. A refused call leaves its outputs unchanged.
+//! length. A refused call leaves its outputs unchanged. `record::read` and `report` have orders of
+//! their own.
 
 use crate::map;
 use crate::record::{self, Header, Layout, BODIES};
 use crate::refusal::{number, unless, Refusal};
-pub use crate::report::report;
+use crate::report;
 use crate::scheme::Scheme;
 use crate::sha256::{sha256, DIGEST};
 use crate::simulator::{self, Simulation};
@@ -71,6 +72,11 @@ pub fn write(arguments: Write) -> u8 {
 /// and exchanges, 4 bytes each, the lowest first.
 pub fn read(record: &[u8], out: &mut [u8; BODIES]) -> u8 {
     number(try_read(record, out))
+}
+
+/// What the report program prints for its standard input, a system and then a record.
+pub fn report(input: &[u8]) -> String {
+    report::report(input)
 }
 
 fn try_evaluate(system: &[u8], x: &[u8], out: &mut [u8]) -> Result<(), Refusal> {

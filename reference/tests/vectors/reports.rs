@@ -110,6 +110,24 @@ fn every_sort_of_text() {
     assert!(texts.iter().all(|text| text.len() <= 8_192));
 }
 
+/// Of both schemes, inputs of 65,535 and 65,536 bytes are judged; one of 65,537 is refused, though
+/// it would not be but for its size.
+#[test]
+fn largest() {
+    let longest = cases(11);
+    let longest = longest.iter().filter(|case| case.inputs[0].len() >= 65_535);
+    let mut judged = [0; 3];
+    for case in longest {
+        let input = &case.inputs[0];
+        let is_refused = case.expected[0].starts_with(b"refused");
+        let is_well_formed =
+            [7, 251].contains(&input[0]) && refusal(&input[system_length(input)..]) == 0;
+        assert_eq!(is_refused, input.len() == 65_537 || !is_well_formed);
+        judged[input.len() - 65_535] += usize::from(is_well_formed);
+    }
+    assert_eq!(judged, [2; 3]);
+}
+
 /// The report program's own file is document 01's printed case.
 #[test]
 fn printed() {
