@@ -2,10 +2,13 @@
 //!
 //! Document 01, "Refused because of the state", has their order: the system first, then the
 //! arguments left to right, all 1, all 2, all 3, then 4. Outputs count as arguments with an exact
-//! length. A refused call leaves its outputs unchanged.
+//! length. A refused call leaves its outputs unchanged. `record::read` and `report` have orders of
+//! their own.
 
 use crate::map;
+use crate::record::{self, Header, Layout, BODIES};
 use crate::refusal::{number, unless, Refusal};
+use crate::report;
 use crate::scheme::Scheme;
 use crate::sha256::{sha256, DIGEST};
 use crate::simulator::{self, Simulation};
@@ -51,6 +54,31 @@ pub fn simulate(arguments: Simulate) -> u8 {
     number(try_simulate(arguments))
 }
 
+/// The arguments of `write`, in their order. `header` is scheme, q, n, m, N.
+pub struct Write<'a> {
+    pub header: [u8; 5],
+    pub key: &'a [u8],
+    pub commitments: &'a [u8],
+    pub exchanges: &'a [u8],
+    pub out: &'a mut [u8],
+}
+
+/// The record of all N rounds into `out`.
+pub fn write(arguments: Write) -> u8 {
+    number(try_write(arguments))
+}
+
+/// Where a record's bodies are, into `out`: its header, then offset and length of key, commitments
+/// and exchanges, 4 bytes each, the lowest first.
+pub fn read(record: &[u8], out: &mut [u8; BODIES]) -> u8 {
+    number(try_read(record, out))
+}
+
+/// What the report program prints for its standard input, a system and then a record.
+pub fn report(input: &[u8]) -> String {
+    report::report(input)
+}
+
 fn try_evaluate(system: &[u8], x: &[u8], out: &mut [u8]) -> Result<(), Refusal> {
     let system = System::read(system)?;
     unless(x.len() == system.n, Refusal::Length)?;
@@ -90,14 +118,17 @@ fn try_simulate(arguments: Simulate) -> Result<(), Refusal> {
     } = arguments;
     let scheme = Scheme::ThreePass;
     let system = System::read(system)?;
-    let digests = usize::from(scheme.commitments()) * DIGEST;
+    let reply_length = scheme.reply_length(system.dimensions());
     unless(v.len() == system.m(), Refusal::Length)?;
     unless(
         lent.len() == simulator::lent_length(&system),
         Refusal::Length,
     )?;
-    unless(commitments.len() == digests, Refusal::Length)?;
-    unless(reply.len() == scheme.reply_length(&system), Refusal::Length)?;
+    unless(
+        commitments.len() == scheme.commitments_length(),
+        Refusal::Length,
+    )?;
+    unless(reply.len() == reply_length, Refusal::Length)?;
     let vectors = &lent[..simulator::lent_elements(&system)];
     unless(all_elements(system.field, v), Refusal::Element)?;
     unless(all_elements(system.field, vectors), Refusal::Element)?;
@@ -107,5 +138,31 @@ fn try_simulate(arguments: Simulate) -> Result<(), Refusal> {
     let simulation = Simulation::new(&system, v, predicted, lent);
     commitments.copy_from_slice(&simulation.commitments());
     reply.copy_from_slice(&simulation.reply(challenge));
+    Ok(())
+}
+
+fn try_write(arguments: Write) -> Result<(), Refusal> {
+    let Write {
+        header,
+        key,
+        commitments,
+        exchanges,
+        out,
+    } = arguments;
+    let layout = Layout::of(Header::of_bytes(header)?);
+    let lengths = [key.len(), commitments.len(), exchanges.len()];
+    let bodies = [layout.key, layout.commitments, layout.exchanges];
+    unless(lengths == bodies.map(|body| body.length), Refusal::Length)?;
+    unless(out.len() == layout.length(), Refusal::Length)?;
+    let faults = layout.header.faults(key, exchanges);
+    unless(!faults.contains(&Refusal::Element), Refusal::Element)?;
+    unless(!faults.contains(&Refusal::Challenge), Refusal::Challenge)?;
+    out.copy_from_slice(&record::write(layout, key, commitments, exchanges));
+    Ok(())
+}
+
+fn try_read(record: &[u8], out: &mut [u8; BODIES]) -> Result<(), Refusal> {
+    let layout = record::read(record)?;
+    out.copy_from_slice(&layout.front());
     Ok(())
 }

@@ -1,4 +1,4 @@
-//! `reference make DIR` writes the vector files and the reports they must lead to into DIR.
+//! `reference make DIR` writes into DIR what the programs read, and what they must print.
 
 use reference::vectors;
 use std::path::Path;
@@ -28,7 +28,10 @@ fn usage() -> ExitCode {
 
 /// Writes DIR/PROGRAM/stdin and DIR/PROGRAM/stdout for each program.
 fn make(folder: &Path) -> std::io::Result<()> {
-    for file in vectors::files() {
+    for file in vectors::files()
+        .into_iter()
+        .chain([vectors::printed_case()])
+    {
         let program = folder.join(file.program);
         std::fs::create_dir_all(&program)?;
         std::fs::write(program.join("stdin"), file.stdin)?;

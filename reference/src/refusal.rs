@@ -11,6 +11,10 @@ pub enum Refusal {
     Element,
     /// 4: a challenge is outside its values.
     Challenge,
+    /// 6: a record's size, edition, table or length is wrong.
+    Record,
+    /// 7: q, n or m of system and record differ.
+    Mismatch,
 }
 
 impl Refusal {
@@ -20,6 +24,8 @@ impl Refusal {
             Refusal::Length => 2,
             Refusal::Element => 3,
             Refusal::Challenge => 4,
+            Refusal::Record => 6,
+            Refusal::Mismatch => 7,
         }
     }
 }

@@ -1,7 +1,8 @@
 //! Document 01, "Commitments" and the two rounds: the schemes, their counts and their lengths.
 
 use crate::commitment::RHO;
-use crate::system::System;
+use crate::sha256::DIGEST;
+use crate::system::Dimensions;
 
 /// The two protocols.
 pub const SCHEMES: [Scheme; 2] = [Scheme::ThreePass, Scheme::FivePass];
@@ -40,33 +41,38 @@ impl Scheme {
         0..self.commitments()
     }
 
+    /// The bytes of a round's commitments.
+    pub fn commitments_length(self) -> usize {
+        usize::from(self.commitments()) * DIGEST
+    }
+
     /// The bytes lent to the card for a round: r0, t0, e0 and a ρ for each commitment.
-    pub fn lent_length(self, system: &System) -> usize {
-        2 * system.n + system.m() + usize::from(self.commitments()) * RHO
+    pub fn lent_length(self, size: Dimensions) -> usize {
+        2 * size.n + size.m + usize::from(self.commitments()) * RHO
     }
 
     /// The bytes of a reply's vectors, which stand before its ρ.
-    pub fn reply_elements(self, system: &System) -> usize {
+    pub fn reply_elements(self, size: Dimensions) -> usize {
         match self {
-            Scheme::ThreePass => 2 * system.n + system.m(),
-            Scheme::FivePass => system.n,
+            Scheme::ThreePass => 2 * size.n + size.m,
+            Scheme::FivePass => size.n,
         }
     }
 
     /// The bytes of a reply.
-    pub fn reply_length(self, system: &System) -> usize {
+    pub fn reply_length(self, size: Dimensions) -> usize {
         let opened = match self {
             Scheme::ThreePass => 2,
             Scheme::FivePass => 1,
         };
-        self.reply_elements(system) + opened * RHO
+        self.reply_elements(size) + opened * RHO
     }
 
     /// The bytes between commitments and challenge: none, or α, t1, e1.
-    pub fn middle_length(self, system: &System) -> usize {
+    pub fn middle_length(self, size: Dimensions) -> usize {
         match self {
             Scheme::ThreePass => 0,
-            Scheme::FivePass => 1 + system.n + system.m(),
+            Scheme::FivePass => 1 + size.n + size.m,
         }
     }
 }

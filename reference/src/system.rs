@@ -10,6 +10,14 @@ pub const MOST: u8 = 96;
 /// The bytes before the coefficients: q, n, m.
 pub const HEAD: usize = 3;
 
+/// q, n and m, each among its values. A system's head and a record's header say them.
+#[derive(Clone, Copy, Debug, PartialEq, Eq)]
+pub struct Dimensions {
+    pub field: Field,
+    pub n: usize,
+    pub m: usize,
+}
+
 /// A well-formed system, taken apart.
 pub struct System {
     pub field: Field,
@@ -26,15 +34,27 @@ pub struct Polynomial {
     linear: Vec<u8>,
 }
 
+impl Dimensions {
+    /// From their three bytes; 1 for q, n or m.
+    pub fn of_bytes(q: u8, n: u8, m: u8) -> Result<Dimensions, Refusal> {
+        let field = Field::of_order(q).ok_or(Refusal::Value)?;
+        let (n, m) = (count(n)?, count(m)?);
+        Ok(Dimensions { field, n, m })
+    }
+
+    /// From the head of a system; 2 if it is not whole.
+    fn of_head(system: &[u8]) -> Result<Dimensions, Refusal> {
+        unless(system.len() >= HEAD, Refusal::Length)?;
+        Dimensions::of_bytes(system[0], system[1], system[2])
+    }
+}
+
 impl System {
     /// Takes a system's bytes apart. Refusals in order: 2 if there is no whole head, 1 for q, n or
     /// m, 2 for the length, 3 for an element.
     pub fn read(bytes: &[u8]) -> Result<System, Refusal> {
-        unless(bytes.len() >= HEAD, Refusal::Length)?;
-        let (head, coefficients) = bytes.split_at(HEAD);
-        let field = Field::of_order(head[0]).ok_or(Refusal::Value)?;
-        let n = count(head[1])?;
-        let m = count(head[2])?;
+        let Dimensions { field, n, m } = Dimensions::of_head(bytes)?;
+        let coefficients = &bytes[HEAD..];
         unless(coefficients.len() == m * width(n), Refusal::Length)?;
         unless(all_elements(field, coefficients), Refusal::Element)?;
         let rows = coefficients.chunks(width(n));
@@ -46,9 +66,26 @@ impl System {
         })
     }
 
+    /// The system that the bytes begin with, which ends where its own q, n, m say, and the rest.
+    /// The same refusals, where only too few bytes are a wrong length.
+    pub fn read_first(bytes: &[u8]) -> Result<(System, &[u8]), Refusal> {
+        let Dimensions { n, m, .. } = Dimensions::of_head(bytes)?;
+        unless(bytes.len() >= length(n, m), Refusal::Length)?;
+        let (system, rest) = bytes.split_at(length(n, m));
+        Ok((System::read(system)?, rest))
+    }
+
     /// How many polynomials.
     pub fn m(&self) -> usize {
         self.polynomials.len()
+    }
+
+    pub fn dimensions(&self) -> Dimensions {
+        Dimensions {
+            field: self.field,
+            n: self.n,
+            m: self.m(),
+        }
     }
 }
 

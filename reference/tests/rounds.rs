@@ -46,7 +46,7 @@ impl Card {
         let rho = usize::from(scheme.commitments()) * RHO;
         let mut lent = random.bytes_below(q.into(), elements);
         lent.extend(random.bytes_below(256, rho));
-        assert_eq!(lent.len(), scheme.lent_length(&system));
+        assert_eq!(lent.len(), scheme.lent_length(system.dimensions()));
         Card {
             scheme,
             system,
@@ -149,8 +149,14 @@ fn honest_replies_are_accepted() {
             for alpha in alphas(card.q()) {
                 for challenge in scheme.challenges() {
                     let round = card.transcript(alpha, challenge);
-                    assert_eq!(round.reply.len(), scheme.reply_length(&card.system));
-                    assert_eq!(round.middle.len(), scheme.middle_length(&card.system));
+                    assert_eq!(
+                        round.reply.len(),
+                        scheme.reply_length(card.system.dimensions())
+                    );
+                    assert_eq!(
+                        round.middle.len(),
+                        scheme.middle_length(card.system.dimensions())
+                    );
                     assert!(card.accepts(&round));
                 }
             }
@@ -163,7 +169,7 @@ fn honest_replies_are_accepted() {
 fn changed_replies_are_rejected() {
     for scheme in SCHEMES {
         for card in cards(scheme, 32) {
-            let elements = scheme.reply_elements(&card.system);
+            let elements = scheme.reply_elements(card.system.dimensions());
             for challenge in scheme.challenges() {
                 let round = card.transcript(1, challenge);
                 for place in 0..round.reply.len() {
@@ -364,7 +370,7 @@ fn one_opening_fails() {
             for reply in [first, second] {
                 assert!(all_elements(
                     card.system.field,
-                    &reply[..card.scheme.reply_elements(&card.system)]
+                    &reply[..card.scheme.reply_elements(card.system.dimensions())]
                 ));
                 assert!(!card.accepts(&Transcript {
                     reply,

@@ -2,7 +2,7 @@
 // changed at single places.
 ghost use mathlib.Core.Path.{_≡_};
 ghost use Prim.Native.Nat.{_+_, _-_, _≤_, _<_};
-ghost use lib.ListN.{length};
+ghost use lib.ListN.{length, replicate};
 ghost use Rattle.io.specs.Counts.{Counts};
 ghost use Rattle.cases.specs.Piece.{number as Piece·number, Placed};
 
@@ -103,6 +103,17 @@ pub fn load_small(file: &[u8], at: usize) -> Small
         bytes,
         length: loaded.length,
         next: loaded.next,
+    }
+}
+
+// Makes every byte of an output the case's fill.
+pub fn fill(out: &mut [u8], byte: u8)
+    ensures { λ _. ⌜ now (out .exit) ≡ replicate (length (now (out .entry))) byte ⌝ }
+{
+    let mut i = 0;
+    while i < out.len() {
+        out[i] = byte;
+        i += 1;
     }
 }
 

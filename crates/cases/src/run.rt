@@ -27,8 +27,8 @@ pub fn compared(expected: Small, number_agrees: bool, out: [u8; 512]) -> Outcome
     }
 }
 
-// Are the first bytes of both the same?
-fn same_start(a: &[u8], b: &[u8], length: usize) -> bool
+// Are the first bytes of both the same? Not if one has fewer.
+pub fn same_start(a: &[u8], b: &[u8], length: usize) -> bool
     ensures { λ r. ⌜ (r ≡ true → SameStart (now (a .entry)) (now (b .entry)) length) ⌝ }
 {
     if a.len() < length {

@@ -2,16 +2,23 @@
 
 use super::exchange::{Card, Judgement};
 use super::piece::{encode_number, Piece};
+use super::reading;
 use super::simulation::Simulation;
+use super::writing::Writing;
 use crate::entries;
+use std::iter::repeat;
 
 /// What every output byte is before a call. It is no field's element, so that an element left
 /// unwritten is seen.
 pub const FILL: u8 = 255;
 
-/// The most bytes that the programs' buffers take: a message, a system, any other piece.
+/// The most bytes that the programs' buffers take: a message, a system, a record or a body of it,
+/// the report's input and text, any other piece.
 const MOST_OF_MESSAGE: usize = 66_000;
 const MOST_OF_SYSTEM: usize = 500_000;
+const MOST_OF_RECORD: usize = 131_072;
+const MOST_OF_INPUT: usize = 66_000;
+const MOST_OF_TEXT: usize = 8_192;
 const MOST_OF_OTHERS: usize = 512;
 
 /// One call: its arguments, and the lengths of its outputs where they are not fixed.
@@ -46,6 +53,13 @@ pub enum Call {
     },
     Judge(Judgement),
     Simulate(Simulation),
+    Read {
+        record: Piece,
+    },
+    Write(Writing),
+    Report {
+        input: Piece,
+    },
 }
 
 /// What a call answers: its number and its outputs afterwards.
@@ -74,6 +88,9 @@ impl Call {
             Call::Reply { .. } => 6,
             Call::Judge(_) => 7,
             Call::Simulate(_) => 8,
+            Call::Read { .. } => 9,
+            Call::Write(_) => 10,
+            Call::Report { .. } => 11,
         }
     }
 
@@ -101,6 +118,9 @@ impl Call {
                 outs: Vec::new(),
             },
             Call::Simulate(simulation) => simulation.answer(),
+            Call::Read { record } => reading::answer(record),
+            Call::Write(writing) => writing.answer(),
+            Call::Report { input } => written(entries::report(&input.expanded()).into_bytes()),
         }
     }
 
@@ -126,30 +146,52 @@ impl Call {
             }
             Call::Judge(judgement) => judgement_inputs(judgement),
             Call::Simulate(simulation) => simulation.inputs(),
+            Call::Read { record } => vec![record.clone()],
+            Call::Write(writing) => writing.inputs(),
+            Call::Report { input } => vec![input.clone()],
         }
     }
 
-    /// Do all pieces fit the programs' buffers?
-    fn fits(&self) -> bool {
-        let most_of_first = match self {
-            Call::Digest { .. } => MOST_OF_MESSAGE,
-            _ => MOST_OF_SYSTEM,
-        };
-        let lengths: Vec<usize> = self.inputs().iter().map(Piece::length).collect();
-        lengths[0] <= most_of_first && lengths[1..].iter().all(|&length| length <= MOST_OF_OTHERS)
+    /// The most bytes of the first pieces; `MOST_OF_OTHERS` of any further one.
+    fn room(&self) -> Vec<usize> {
+        match self {
+            Call::Digest { .. } => vec![MOST_OF_MESSAGE],
+            Call::Read { .. } => vec![MOST_OF_RECORD],
+            Call::Write(_) => {
+                let mut room = vec![MOST_OF_OTHERS; 2];
+                room.extend([MOST_OF_RECORD; 3]);
+                room
+            }
+            Call::Report { .. } => vec![MOST_OF_INPUT, MOST_OF_TEXT],
+            _ => vec![MOST_OF_SYSTEM],
+        }
+    }
+
+    /// The inputs, then the outputs expected.
+    fn pieces(&self, answer: &Answer) -> Vec<Piece> {
+        let mut pieces = self.inputs();
+        let outs = answer.outs.iter();
+        pieces.extend(outs.map(|out| self.expected(answer.number, out)));
+        pieces
+    }
+
+    /// The output expected: what was written, or in a refused call the fill, in short form.
+    fn expected(&self, number: u8, out: &[u8]) -> Piece {
+        match self {
+            _ if number != 0 => Piece::repeated(&[FILL], out.len()),
+            Call::Write(writing) => Piece::ending_with(out, &writing.exchanges),
+            _ => Piece::literal(out),
+        }
     }
 
     /// Appends the case to a file: kind, number, fill, the inputs, the outputs expected.
     fn encode(&self, file: &mut Vec<u8>) {
-        assert!(self.fits(), "a case that the programs have room for");
         let answer = self.answer();
         file.extend([self.kind(), answer.number, FILL]);
-        for piece in self.inputs() {
+        let room = self.room().into_iter().chain(repeat(MOST_OF_OTHERS));
+        for (piece, most) in self.pieces(&answer).iter().zip(room) {
+            assert!(piece.length() <= most, "room for a piece");
             piece.encode(file);
-        }
-        for out in answer.outs {
-            assert!(out.len() <= MOST_OF_OTHERS, "room for an output");
-            expected_piece(answer.number, &out).encode(file);
         }
     }
 }
@@ -191,15 +233,6 @@ fn written(out: Vec<u8>) -> Answer {
     Answer {
         number: 0,
         outs: vec![out],
-    }
-}
-
-/// The output expected: what was written, or in a refused call the fill, in short form.
-fn expected_piece(number: u8, out: &[u8]) -> Piece {
-    if number == 0 {
-        Piece::literal(out)
-    } else {
-        Piece::repeated(&[FILL], out.len())
     }
 }
 

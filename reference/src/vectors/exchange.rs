@@ -34,9 +34,16 @@ impl Card {
     /// A card of a shape with a random system, secret and lent slice.
     pub fn random(random: &mut Generator, scheme: Scheme, shape: Shape) -> Card {
         let system = shape.random_system(random);
-        let vectors = [shape.n(), shape.n(), shape.n(), shape.m()];
-        let [s, r0, t0, e0] = vectors.map(|count| shape.random_elements(random, count));
-        Card::new(random, scheme, system, &s, [&r0, &t0, &e0])
+        let s = shape.random_elements(random, shape.n());
+        Card::of_key(random, scheme, system, &s)
+    }
+
+    /// A card of that key with a random lent slice.
+    pub fn of_key(random: &mut Generator, scheme: Scheme, system: Piece, s: &[u8]) -> Card {
+        let shape = Shape::of(&system);
+        let vectors = [shape.n(), shape.n(), shape.m()];
+        let [r0, t0, e0] = vectors.map(|count| shape.random_elements(random, count));
+        Card::new(random, scheme, system, s, [&r0, &t0, &e0])
     }
 
     /// A card with these vectors r0, t0, e0 and random ρ.

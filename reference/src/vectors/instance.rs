@@ -3,7 +3,7 @@
 use super::case::Call;
 use super::piece::Piece;
 use crate::random::Generator;
-use crate::system::{length, width};
+use crate::system::{length, width, MOST};
 
 /// q, n and m as a system's head has them.
 #[derive(Clone, Copy, Debug)]
@@ -16,6 +16,12 @@ pub struct Shape {
 impl Shape {
     pub fn new(q: u8, n: u8, m: u8) -> Shape {
         Shape { q, n, m }
+    }
+
+    /// The shape that a system says.
+    pub fn of(system: &Piece) -> Shape {
+        let head = system.expanded();
+        Shape::new(head[0], head[1], head[2])
     }
 
     pub fn n(self) -> usize {
@@ -38,9 +44,7 @@ impl Shape {
 
     /// The same cut or extended to a length, which has room for the head.
     pub fn system_of_length(self, pattern: &[u8], length: usize) -> Piece {
-        let body = Piece::repeated(pattern, length);
-        let head = [self.q, self.n, self.m].into_iter().enumerate();
-        head.fold(body, |piece, (offset, byte)| piece.patched(offset, byte))
+        Piece::repeated(pattern, length).overwritten(0, &[self.q, self.n, self.m])
     }
 
     /// A system of this shape with a random pattern.
@@ -50,7 +54,7 @@ impl Shape {
 
     /// Random elements, as many as a prime that no two rows of a system have the same part of.
     pub fn random_pattern(self, random: &mut Generator) -> Vec<u8> {
-        self.random_elements(random, period(width(self.n())))
+        self.random_elements(random, prime(MOST.into(), width(self.n())))
     }
 
     /// A vector of n random elements.
@@ -73,10 +77,10 @@ impl Shape {
     }
 }
 
-/// The least prime above 96 that does not divide the row's width. So rows l and k begin at the same
-/// place of the pattern only if the prime divides l - k, which is less.
-pub fn period(width: usize) -> usize {
-    (97..)
+/// The least prime above the number of rows that does not divide a row's width. So rows l and k
+/// begin at the same place of a pattern of that length only if it divides l - k, which is less.
+pub fn prime(rows: usize, width: usize) -> usize {
+    (rows + 1..)
         .find(|&number| is_prime(number) && !width.is_multiple_of(number))
         .expect("primes go on")
 }

@@ -10,26 +10,43 @@ pub mod honest;
 pub mod instance;
 pub mod maps;
 pub mod piece;
+pub mod reading;
+pub mod reporting;
+pub mod session;
 pub mod simulation;
 pub mod system_check;
+pub mod writing;
 
+use crate::entries::report;
 use case::{encode, Group};
 
 /// What one program reads, and what it must print.
-pub struct VectorFile {
+pub struct ProgramFile {
     pub program: &'static str,
     pub stdin: Vec<u8>,
     pub stdout: String,
 }
 
 /// The vector file of each program.
-pub fn files() -> Vec<VectorFile> {
+pub fn files() -> Vec<ProgramFile> {
     vec![
         file("sha256_vectors", &hash::groups()),
         file("system_vectors", &system_groups()),
         file("round_vectors", &round_groups()),
         file("simulator_vectors", &simulation::groups()),
+        file("record_vectors", &record_groups()),
+        file("report_vectors", &reporting::groups()),
     ]
+}
+
+/// The report program's own: document 01's printed case, which is no vector file.
+pub fn printed_case() -> ProgramFile {
+    let stdin = reporting::printed_case();
+    ProgramFile {
+        program: "report",
+        stdout: report(&stdin),
+        stdin,
+    }
 }
 
 /// The check of a system's bytes, then F and G.
@@ -51,16 +68,23 @@ fn round_groups() -> Vec<Group> {
     .collect()
 }
 
-fn file(program: &'static str, groups: &[Group]) -> VectorFile {
-    VectorFile {
+/// Records read, then written.
+fn record_groups() -> Vec<Group> {
+    let mut groups = reading::groups();
+    groups.extend(writing::groups());
+    groups
+}
+
+fn file(program: &'static str, groups: &[Group]) -> ProgramFile {
+    ProgramFile {
         program,
         stdin: encode(groups),
-        stdout: report(groups),
+        stdout: agreement(groups),
     }
 }
 
 /// What a program prints if every case agrees.
-fn report(groups: &[Group]) -> String {
+fn agreement(groups: &[Group]) -> String {
     let lines = groups
         .iter()
         .map(|group| line(&group.name, group.cases.len()));

@@ -44,8 +44,51 @@ impl Piece {
         self
     }
 
+    /// The same with consecutive bytes changed from an offset on.
+    pub fn overwritten(self, offset: usize, bytes: &[u8]) -> Piece {
+        let places = (offset..).zip(bytes);
+        places.fold(self, |piece, (place, &byte)| piece.patched(place, byte))
+    }
+
+    /// These bytes by the pattern of a piece that they end with, patched wherever they differ from
+    /// it; or as they are, if that is shorter.
+    pub fn ending_with(bytes: &[u8], end: &Piece) -> Piece {
+        let literal = Piece::literal(bytes);
+        if end.length == 0 {
+            return literal;
+        }
+        let mut pattern = end.pattern.clone();
+        pattern.rotate_right((bytes.len() - end.length) % end.pattern.len());
+        let repeated = Piece::repeated(&pattern, bytes.len());
+        let expanded = repeated.expanded();
+        let differ = (0..bytes.len()).filter(|&place| expanded[place] != bytes[place]);
+        let patched = differ.fold(repeated, |piece, place| piece.patched(place, bytes[place]));
+        if patched.size() < literal.size() {
+            patched
+        } else {
+            literal
+        }
+    }
+
+    /// The bytes from one place up to another, as a piece of its own.
+    pub fn part(&self, start: usize, end: usize) -> Piece {
+        let mut pattern = self.pattern.clone();
+        pattern.rotate_left(start % self.pattern.len());
+        let part = Piece::repeated(&pattern, end - start);
+        let within = self.patches.iter();
+        let within = within.filter(|patch| (start..end).contains(&patch.offset));
+        within.fold(part, |part, patch| {
+            part.patched(patch.offset - start, patch.value)
+        })
+    }
+
     pub fn length(&self) -> usize {
         self.length
+    }
+
+    /// The bytes it takes in a file, its three numbers aside.
+    fn size(&self) -> usize {
+        self.pattern.len() + 5 * self.patches.len()
     }
 
     /// The bytes meant.

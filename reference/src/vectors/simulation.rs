@@ -121,15 +121,10 @@ pub fn mispredicted(random: &mut Generator, card: &Card, challenge: u8) -> Judge
             break s;
         }
     };
-    let shape = shape_of(&card.system);
+    let shape = Shape::of(&card.system);
     let lent = Piece::literal(&[s, card.lent.clone()].concat());
     let simulation = Simulation::new(shape, card.system.clone(), Piece::literal(&v), lent);
     simulation.challenged((challenge, challenge)).judged()
-}
-
-fn shape_of(system: &Piece) -> Shape {
-    let head = system.expanded();
-    Shape::new(head[0], head[1], head[2])
 }
 
 /// Each Ch* with each other Ch.
@@ -167,7 +162,7 @@ fn calls(simulations: &[Simulation]) -> Vec<Call> {
 fn small_key() -> Vec<Simulation> {
     let mut random = Generator::from_seed(71);
     let rho = random.bytes_below(256, 3 * RHO);
-    let shape = shape_of(&Piece::literal(&SMALL));
+    let shape = Shape::of(&Piece::literal(&SMALL));
     let v = evaluate(&read(&Piece::literal(&SMALL)), &SMALL_S);
     let mut simulations = Vec::new();
     for s in [[1, 0], SMALL_S] {
@@ -381,7 +376,7 @@ fn edges(lengths: &[usize]) -> Vec<usize> {
 }
 
 /// None, one too few, one too many and the others, without the right one and repeats.
-fn wrong_lengths(right: usize, others: &[usize]) -> Vec<usize> {
+pub fn wrong_lengths(right: usize, others: &[usize]) -> Vec<usize> {
     let mut lengths = [&[0, right - 1, right + 1], others].concat();
     lengths.sort_unstable();
     lengths.dedup();

@@ -1,0 +1,139 @@
+//! Reports checked by document 01's formulas, rounds cut out anew.
+
+use crate::records::{lengths, refusal};
+use crate::stored::{cases, made};
+use reference::entries::check;
+use reference::rounds::{accepts, Transcript};
+use reference::scheme::Scheme;
+use reference::system::System;
+use reference::vectors::printed_case;
+
+/// How long the system at the start is by its own numbers.
+fn system_length(input: &[u8]) -> usize {
+    let [n, m] = [1, 2].map(|place| usize::from(input[place]));
+    3 + m * (n * (n + 1) / 2 + n)
+}
+
+/// The refusal of an input, 0 if there is none.
+fn input_refusal(input: &[u8]) -> u8 {
+    if input.len() > 65_536 || input.len() < 3 {
+        return 2;
+    }
+    let length = system_length(input);
+    let system = &input[..length.min(input.len())];
+    let numbers = [check(system), refusal(&input[system.len()..])];
+    match numbers {
+        [0, 0] if input[..3] == input[length + 2..length + 5] => 0,
+        [0, 0] => 7,
+        [0, number] | [number, _] => number,
+    }
+}
+
+/// The rounds of a record, with the scheme that judges them and v.
+fn session(record: &[u8]) -> (Scheme, &[u8], Vec<Transcript>) {
+    let header = [1, 2, 3, 4, 5].map(|place| usize::from(record[place]));
+    let [scheme, _, n, m, rounds] = header;
+    let [key, commitments, exchanges] = lengths(header);
+    let (v, rest) = record[30..].split_at(key);
+    let (digests, replies) = rest.split_at(commitments);
+    let middle = if scheme == 3 { 0 } else { 1 + n + m };
+    let transcripts = (0..rounds).map(|round| {
+        let exchange = &replies[round * exchanges / rounds..][..exchanges / rounds];
+        Transcript {
+            commitments: digests[round * commitments / rounds..][..commitments / rounds].to_vec(),
+            middle: exchange[..middle].to_vec(),
+            challenge: exchange[middle],
+            reply: exchange[middle + 1..].to_vec(),
+        }
+    });
+    let scheme = Scheme::of_byte(record[1]).expect("a scheme");
+    (scheme, v, transcripts.collect())
+}
+
+/// The text of an input that is not refused.
+fn text(input: &[u8]) -> String {
+    let (system, record) = input.split_at(system_length(input));
+    let system = System::read(system).expect("a well-formed system");
+    let (scheme, v, rounds) = session(record);
+    let mut text = String::new();
+    let mut accepted = 0;
+    for (i, round) in rounds.iter().enumerate() {
+        let good = accepts(&system, scheme, v, round);
+        accepted += usize::from(good);
+        let word = if good { "accept" } else { "reject" };
+        text += &format!("round {} challenge {} {word}\n", i + 1, round.challenge);
+    }
+    let rounds = rounds.len();
+    let word = if accepted == rounds {
+        "accept"
+    } else {
+        "reject"
+    };
+    text + &format!("verdict {word} {accepted} of {rounds}\n")
+}
+
+#[test]
+fn reports() {
+    for case in cases(11) {
+        let input = &case.inputs[0];
+        let expected = match input_refusal(input) {
+            0 => text(input),
+            number => format!("refused {number}\n"),
+        };
+        assert_eq!(case.expected, [expected.into_bytes()]);
+    }
+}
+
+/// Every refusal is stored, and verdicts of every sort: all rounds accepted, none, all but one.
+#[test]
+fn every_sort_of_text() {
+    let texts: Vec<String> = cases(11)
+        .into_iter()
+        .map(|case| String::from_utf8(case.expected[0].clone()).expect("ASCII"))
+        .collect();
+    let ends = [
+        "verdict accept 1 of 1\n",
+        "verdict accept 100 of 100\n",
+        "verdict accept 255 of 255\n",
+        "verdict reject 0 of 1\n",
+        "verdict reject 0 of 5\n",
+        "verdict reject 4 of 5\n",
+        "verdict reject 9 of 10\n",
+        "verdict reject 99 of 100\n",
+    ];
+    for end in ends {
+        assert!(texts.iter().any(|text| text.ends_with(end)), "{end}");
+    }
+    for number in [1, 2, 3, 4, 6, 7] {
+        assert!(texts.contains(&format!("refused {number}\n")));
+    }
+    assert!(texts.iter().all(|text| text.len() <= 8_192));
+}
+
+/// Of both schemes, inputs of 65,535 and 65,536 bytes are judged; one of 65,537 is refused, though
+/// it would not be but for its size.
+#[test]
+fn largest() {
+    let longest = cases(11);
+    let longest = longest.iter().filter(|case| case.inputs[0].len() >= 65_535);
+    let mut judged = [0; 3];
+    for case in longest {
+        let input = &case.inputs[0];
+        let is_refused = case.expected[0].starts_with(b"refused");
+        let is_well_formed =
+            [7, 251].contains(&input[0]) && refusal(&input[system_length(input)..]) == 0;
+        assert_eq!(is_refused, input.len() == 65_537 || !is_well_formed);
+        judged[input.len() - 65_535] += usize::from(is_well_formed);
+    }
+    assert_eq!(judged, [2; 3]);
+}
+
+/// The report program's own file is document 01's printed case.
+#[test]
+fn printed() {
+    let file = printed_case();
+    let lines = "round 1 challenge 2 accept\nverdict accept 1 of 1\n";
+    assert_eq!(file.stdout, lines);
+    assert!(cases(11).iter().any(|case| case.inputs[0] == file.stdin));
+    assert!(made().iter().all(|made| made.program != file.program));
+}
