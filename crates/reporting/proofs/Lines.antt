@@ -19,9 +19,9 @@ pub record Written (system b start text : List ℕ) (place r : ℕ) : Type 0 whe
   pub long : place ≡ length (roundLines system b r)
   pub room : place ≤ 32 * r
 
-pub lines-start : (system b start : List ℕ) → Written system b start start 0 0
+pub lines-start : (system b start : List ℕ) (r : ℕ) → r ≡ 0 → Written system b start start 0 r
 unfolding roundLines placed
-lines-start system b start = record { lines = refl; long = refl; room = omega arith }
+lines-start system b start r none = rw none (record { lines = refl; long = refl; room = omega arith })
 
 -- behind them stands one line more
 behind : (system b start text after line : List ℕ) (place r : ℕ) → Written system b start text place r → length start ≡ 8192 → r ≤ 255 →
@@ -29,30 +29,30 @@ behind : (system b start text after line : List ℕ) (place r : ℕ) → Written
 behind system b start text after line place r w size few e =
     placed-append start text after (roundLines system b r) line 0 place (omega (arith, w .long, w .room)) (omega (arith, w .long)) (w .lines) e
 
-pub lines-step : (system b start text after : List ℕ) (place next r challenge : ℕ) (accepted : Bool) → Written system b start text place r → length start ≡ 8192 → r ≤ 255 →
+pub lines-step : (system b start text after : List ℕ) (place next r later challenge : ℕ) (accepted : Bool) → Written system b start text place r → length start ≡ 8192 → r ≤ 255 → later ≡ r + 1 →
     challenge ≡ roundChallenge b r → accepted ≡ acceptedRound system b r → after ≡ placed text place (roundLine (r + 1) challenge accepted) →
-    next ≡ place + length (roundLine (r + 1) challenge accepted) → next ≤ place + 32 → Written system b start after next (r + 1)
+    next ≡ place + length (roundLine (r + 1) challenge accepted) → next ≤ place + 32 → Written system b start after next later
 unfolding roundLines
-lines-step system b start text after place next r challenge accepted w size few ec ea e long near =
+lines-step system b start text after place next r later challenge accepted w size few el ec ea e long near =
     let line = roundLine (r + 1) challenge accepted in
     let is-line : line ≡ roundLine (r + 1) (roundChallenge b r) (acceptedRound system b r) = ap₂ (roundLine (r + 1)) ec ea in
     record {
-      lines = rw (add-one) (behind system b start text after line place r w size few e ∙ ap (λ (l : List ℕ). placed start 0 (roundLines system b r ++ l)) is-line);
+      lines = rw (el, add-one) (behind system b start text after line place r w size few e ∙ ap (λ (l : List ℕ). placed start 0 (roundLines system b r ++ l)) is-line);
       long =
-          rw (add-one)
+          rw (el, add-one)
           (long ∙ ap (λ (k : ℕ). k + length line) (w .long) ∙ sym (length-append (roundLines system b r) line) ∙
           ap (λ (l : List ℕ). length (roundLines system b r ++ l)) is-line);
-      room = omega (arith, w .room, near);
+      room = omega (arith, w .room, near, el);
     }
 
-pub count-start : (system b : List ℕ) → 0 ≡ acceptedCount system b 0
+pub count-start : (system b : List ℕ) (r : ℕ) → r ≡ 0 → 0 ≡ acceptedCount system b r
 unfolding acceptedCount
-count-start system b = refl
+count-start system b r none = rw none refl
 
-pub count-step : (system b : List ℕ) (count next r : ℕ) (accepted : Bool) → count ≡ acceptedCount system b r → accepted ≡ acceptedRound system b r →
-    next ≡ count + cond accepted 1 0 → next ≡ acceptedCount system b (r + 1)
+pub count-step : (system b : List ℕ) (count next r later : ℕ) (accepted : Bool) → count ≡ acceptedCount system b r → later ≡ r + 1 → accepted ≡ acceptedRound system b r →
+    next ≡ count + cond accepted 1 0 → next ≡ acceptedCount system b later
 unfolding acceptedCount
-count-step system b count next r accepted ec ea en = rw (add-one) (en ∙ ap₂ (λ (k : ℕ) (t : Bool). k + cond t 1 0) ec ea)
+count-step system b count next r later accepted ec el ea en = rw (el, add-one) (en ∙ ap₂ (λ (k : ℕ) (t : Bool). k + cond t 1 0) ec ea)
 
 -- the verdict stands behind the last round's line
 pub text-end : (system b start text after : List ℕ) (place next count rounds r : ℕ) → Written system b start text place r → length start ≡ 8192 → r ≤ 255 →

@@ -96,13 +96,14 @@ fn judged<'a>(system: &'a [u8], bytes: &'a [u8], text: &mut [u8]) -> usize
     let rounds = header_of(bytes).rounds;
     let mut at = 0;
     let mut accepted = 0;
-    let mut r = 0;
-    while r < rounds {
+    let mut left = rounds;
+    while 0 < left {
+        let r = rounds - left;
         let round_accepted = accepts_round(system, bytes, r);
         let challenge = round_challenge(bytes, r);
         at = round_line(text, at, r + 1, challenge, round_accepted);
         accepted = counted(accepted, round_accepted);
-        r += 1;
+        left -= 1;
     }
     verdict_line(text, at, accepted, rounds)
 }

@@ -19,7 +19,7 @@ main-spec =
     (λ c. search needs)
     (λ c κs. search needs)
     (λ c. search needs)
-    (λ c. 
+    (λ c.
     let kept = c .before .before .report .kept in
     let inside = c .before .before .report .ensures .2 in
     sym (length-take-le _ (c .before .before .report .last .1 .0) (omega arith)))

@@ -1,6 +1,6 @@
 -- A line a round, and the count of those that are accepted. Assumes nothing.
 use Prim.Native.Nat.{ℕ, _-_, _+_, _*_, _≤_}
-use mathlib.Core.Path.{_≡_, refl, sym, ap, _∙_}
+use mathlib.Core.Path.{_≡_, ap}
 use native.Mathlib.Omega.{arith}
 use lib.ListN.{length}
 use Rattle.record.specs.declared.layout.Header.{Header}
@@ -11,11 +11,12 @@ use Rattle.reporting.proofs.judged.Statement.{statement}
 use Rattle.reporting.proofs.judged.Tie as tie
 
 abbrev Inv-loop : tie.InvT-loop
-Inv-loop system bytes text₀ rounds at₀ accepted₀ r₀ text at accepted r =
-    (r ≤ rounds) × (rounds ≤ 255) × (length text ≡ 8192) × (accepted ≤ r) × (accepted ≡ acceptedCount system bytes r) × Written system bytes text₀ text at r
+Inv-loop system bytes text₀ rounds at₀ accepted₀ left₀ text at accepted left =
+    let r = rounds - left in
+    (left ≤ rounds) × (rounds ≤ 255) × (length text ≡ 8192) × (accepted ≤ r) × (accepted ≡ acceptedCount system bytes r) × Written system bytes text₀ text at r
 
 abbrev μ-loop : tie.MeasureT-loop
-μ-loop system bytes text₀ rounds at₀ accepted₀ r₀ text at accepted r = rounds - r
+μ-loop system bytes text₀ rounds at₀ accepted₀ left₀ text at accepted left = left
 
 pub judged-spec : {M : Type 1} → statement M
 judged-spec =
@@ -24,30 +25,35 @@ judged-spec =
     Inv-loop
     μ-loop
     (λ c κs. search needs)
-    (λ c. (omega arith, omega arith, omega arith, omega arith, count-start _ _, lines-start _ _ _))
+    (λ c. (omega arith, omega arith, omega arith, omega arith, count-start _ _ (c .header-of .result .rounds - c .header-of .result .rounds) (omega arith), lines-start _ _ _ (c .header-of .result .rounds - c .header-of .result .rounds) (omega arith)))
+    (λ c. omega arith)
     (λ c κs. c .before .before .before .before .before .before .pre .0)
     (λ c κs. search needs)
     (λ c. omega arith)
-    (λ c κs. omega arith)
+    (λ c κs. let written = c .before .before .before .before .loop .inv .5 .room in omega arith)
     (λ c κs. omega arith)
     (λ c. omega arith)
     (λ c. omega arith)
-    (λ c.
+    (λ c. 
     let line = c .before .before .before .round-line in
     let loop = c .before .before .before .before .before .before .before .before .loop in
+    let rounds = c .before .before .before .before .before .before .before .before .before .header-of .result .rounds in
     let kept = line .kept .0 in
     let judged = c .before .before .before .before .before .before .accepts-round .ensures in
-    let one-more = c .counted .ensures .1 in (
+    let one-more = c .counted .ensures .1 in
+    let next : rounds - (loop .left - 1) ≡ rounds - loop .left + 1 = omega arith in (
       omega arith,
       omega arith,
       omega arith,
       omega arith,
-      count-step _ _ _ _ _ _ (loop .inv .4) judged (c .counted .ensures .0),
-      lines-step _ _ _ _ _ _ _ _ _ _ (loop .inv .5) (c .before .before .before .before .before .before .before .before .before .before .before .before .before .pre .1) (omega arith) (c .before .before .before .before .before .round-challenge .ensures) judged (line .ensures .0) (line .ensures .1) (line .ensures .2),
+      count-step _ _ _ _ _ _ _ (loop .inv .4) next judged (c .counted .ensures .0),
+      lines-step _ _ _ _ _ _ _ _ _ _ _ (loop .inv .5) (c .before .before .before .before .before .before .before .before .before .before .before .before .before .pre .1) (omega arith) next (c .before .before .before .before .before .round-challenge .ensures) judged (line .ensures .0) (line .ensures .1) (line .ensures .2),
     ))
-    (λ c κs. omega arith)
+    (λ c κs. let written = c .before .before .loop .inv .5 .room in omega arith)
     (λ c. search needs)
-    (λ c.
+    (λ c. 
     let line = c .before .before .verdict-line in
     let loop = c .before .before .before .before .before .loop in
-    text-end _ _ _ _ _ _ _ _ _ _ (loop .inv .5) (c .before .before .before .before .before .before .before .before .before .before .pre .1) (omega arith) (omega arith) (ap (λ (h : Header). h .rounds) (c .before .before .before .before .before .before .header-of .ensures)) (loop .inv .4) (line .ensures .0) (line .ensures .1) (line .ensures .2)))
+    let rounds = c .before .before .before .before .before .before .header-of .result .rounds in
+    let all : rounds - loop .left ≡ rounds = omega arith in
+    text-end _ _ _ _ _ _ _ _ _ _ (loop .inv .5) (c .before .before .before .before .before .before .before .before .before .before .pre .1) (omega arith) all (ap (λ (h : Header). h .rounds) (c .before .before .before .before .before .before .header-of .ensures)) (loop .inv .4) (line .ensures .0) (line .ensures .1) (line .ensures .2)))
