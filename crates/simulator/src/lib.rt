@@ -17,25 +17,14 @@ use round::reply_three;
 use round::simulated;
 use slices::byte_at;
 use slices::bytes32;
+use slices::part;
 use system::check;
 ghost use mathlib.Core.Path.{_≡_};
-ghost use lib.ListN.{length, take};
+ghost use lib.ListN.{length};
 ghost use Rattle.refusal.specs.Refusal.{kept};
-ghost use Rattle.field.specs.Vector.{allBelow};
 ghost use Rattle.system.specs.System.{systemRefusal};
 ghost use Rattle.round.specs.Pieces.{vectorsOf};
 ghost use Rattle.simulator.specs.Simulator.{simulateRefusal, vectorsIn, rhosIn, simulatedCommitments, simulatedReply};
-
-// Whether the first k bytes are all below q.
-fn front_below(q: u8, s: &[u8], k: usize) -> bool
-    ensures { λ r. ⌜ r ≡ allBelow q (take k (now (s .entry))) ⌝ }
-{
-    if k < s.len() {
-        all_below(q, &s[..k])
-    } else {
-        all_below(q, s)
-    }
-}
 
 // The refusal of a call, its outputs' lengths among its arguments.
 fn simulate_refusal<'a>(
@@ -62,7 +51,7 @@ fn simulate_refusal<'a>(
     );
     let elements = first(
         unless(all_below(q, v), 3),
-        unless(front_below(q, lent, n + n + n + m), 3),
+        unless(all_below(q, part(lent, 0, n + n + n + m)), 3),
     );
     let challenges = first(
         unless(guess <= 2, 4),

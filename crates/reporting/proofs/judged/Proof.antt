@@ -34,7 +34,7 @@ judged-spec =
     (λ c κs. omega arith)
     (λ c. omega arith)
     (λ c. omega arith)
-    (λ c. 
+    (λ c.
     let line = c .before .before .before .round-line in
     let loop = c .before .before .before .before .before .before .before .before .loop in
     let rounds = c .before .before .before .before .before .before .before .before .before .header-of .result .rounds in
@@ -51,7 +51,7 @@ judged-spec =
     ))
     (λ c κs. let written = c .before .before .loop .inv .5 .room in omega arith)
     (λ c. search needs)
-    (λ c. 
+    (λ c.
     let line = c .before .before .verdict-line in
     let loop = c .before .before .before .before .before .loop in
     let rounds = c .before .before .before .before .before .before .header-of .result .rounds in

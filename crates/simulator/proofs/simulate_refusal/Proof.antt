@@ -45,4 +45,5 @@ simulate-refusal-spec =
     (λ c κs. search needs)
     (λ c κs. search needs)
     (λ c κs. search needs)
-    (λ c. simp (c .first9 .ensures, c .before .first8 .ensures, c .before .before .first7 .ensures, c .before .before .before .first6 .ensures, c .before .before .before .before .check .ensures, c .before .before .before .before .before .first5 .ensures, c .before .before .before .before .before .before .first4 .ensures, c .before .before .before .before .before .before .before .unless9 .ensures, c .before .before .before .before .before .before .before .before .unless8 .ensures, c .before .before .before .before .before .before .before .before .before .unless7 .ensures, c .before .before .before .before .before .before .before .before .before .before .first3 .ensures, c .before .before .before .before .before .before .before .before .before .before .before .unless6 .ensures, c .before .before .before .before .before .before .before .before .before .before .before .before .front-below .ensures, c .before .before .before .before .before .before .before .before .before .before .before .before .before .unless5 .ensures, c .before .before .before .before .before .before .before .before .before .before .before .before .before .before .all-below .ensures, c .before .before .before .before .before .before .before .before .before .before .before .before .before .before .before .first2 .ensures, c .before .before .before .before .before .before .before .before .before .before .before .before .before .before .before .before .unless4 .ensures, c .before .before .before .before .before .before .before .before .before .before .before .before .before .before .before .before .before .unless3 .ensures, c .before .before .before .before .before .before .before .before .before .before .before .before .before .before .before .before .before .before .first .ensures, c .before .before .before .before .before .before .before .before .before .before .before .before .before .before .before .before .before .before .before .unless2 .ensures, c .before .before .before .before .before .before .before .before .before .before .before .before .before .before .before .before .before .before .before .before .unless .ensures, c .before .before .before .before .before .before .before .before .before .before .before .before .before .before .before .before .before .before .before .before .before .byte-at3 .ensures, c .before .before .before .before .before .before .before .before .before .before .before .before .before .before .before .before .before .before .before .before .before .before .byte-at2 .ensures, c .before .before .before .before .before .before .before .before .before .before .before .before .before .before .before .before .before .before .before .before .before .before .before .byte-at .ensures)))
+    (λ c κs. search needs)
+    (λ c. simp (c .first9 .ensures, c .before .first8 .ensures, c .before .before .first7 .ensures, c .before .before .before .first6 .ensures, c .before .before .before .before .check .ensures, c .before .before .before .before .before .first5 .ensures, c .before .before .before .before .before .before .first4 .ensures, c .before .before .before .before .before .before .before .unless9 .ensures, c .before .before .before .before .before .before .before .before .unless8 .ensures, c .before .before .before .before .before .before .before .before .before .unless7 .ensures, c .before .before .before .before .before .before .before .before .before .before .first3 .ensures, c .before .before .before .before .before .before .before .before .before .before .before .unless6 .ensures, c .before .before .before .before .before .before .before .before .before .before .before .before .all-below2 .ensures, c .before .before .before .before .before .before .before .before .before .before .before .before .before .part .ensures, c .before .before .before .before .before .before .before .before .before .before .before .before .before .before .unless5 .ensures, c .before .before .before .before .before .before .before .before .before .before .before .before .before .before .before .all-below .ensures, c .before .before .before .before .before .before .before .before .before .before .before .before .before .before .before .before .first2 .ensures, c .before .before .before .before .before .before .before .before .before .before .before .before .before .before .before .before .before .unless4 .ensures, c .before .before .before .before .before .before .before .before .before .before .before .before .before .before .before .before .before .before .unless3 .ensures, c .before .before .before .before .before .before .before .before .before .before .before .before .before .before .before .before .before .before .before .first .ensures, c .before .before .before .before .before .before .before .before .before .before .before .before .before .before .before .before .before .before .before .before .unless2 .ensures, c .before .before .before .before .before .before .before .before .before .before .before .before .before .before .before .before .before .before .before .before .before .unless .ensures, c .before .before .before .before .before .before .before .before .before .before .before .before .before .before .before .before .before .before .before .before .before .before .byte-at3 .ensures, c .before .before .before .before .before .before .before .before .before .before .before .before .before .before .before .before .before .before .before .before .before .before .before .byte-at2 .ensures, c .before .before .before .before .before .before .before .before .before .before .before .before .before .before .before .before .before .before .before .before .before .before .before .before .byte-at .ensures)))
