@@ -27,6 +27,8 @@ write-spec =
     (tie.spec
     (λ c κs. search needs)
     (λ c. (c .before .write-refusal .ensures, sym (kept-refused _ _ _ (c .if1 .taken))))
-    (λ c κs. room _ _ (sym (c .before .before .write-refusal .ensures) ∙ c .before .if1 .left))
+    (λ c κs.
+    let fits = room _ _ (sym (c .before .before .write-refusal .ensures) ∙ c .before .if1 .left) in
+    omega arith)
     (λ c. search needs)
     (λ c. (sym (c .before .before .before .before .if1 .left) ∙ c .before .before .before .before .before .write-refusal .ensures, c .before .before .put-record .ensures ∙ sym (kept-accepted 0 _ _ refl))))

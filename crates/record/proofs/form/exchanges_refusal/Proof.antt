@@ -16,7 +16,7 @@ use Rattle.record.proofs.form.exchanges_refusal.Tie as tie
 
 abbrev Inv-loop : tie.InvT-loop
 Inv-loop check h exchanges each rounds refused₀ r₀ refused r =
-    (r ≤ rounds) × (rounds ≤ 255) × (each ≤ 1341) × (refused ≡ firstOf r (λ (k : ℕ). exchangeRefusal check h (take each (drop (k * each) exchanges))))
+    (refused ≡ firstOf r (λ (k : ℕ). exchangeRefusal check h (take each (drop (k * each) exchanges)))) × (r ≤ rounds) × (rounds ≤ 255) × (each ≤ 1341)
 
 abbrev μ-loop : tie.MeasureT-loop
 μ-loop check h exchanges each rounds refused₀ r₀ refused r = rounds - r
@@ -36,12 +36,12 @@ exchanges-refusal-spec =
     Inv-loop
     μ-loop
     (λ c κs. search needs)
-    (λ c. (omega arith, omega arith, omega arith, firstOf-zero _))
-    (λ c κs. c .before .loop .inv .2)
+    (λ c. (firstOf-zero _, omega arith, omega arith, omega arith))
+    (λ c κs. c .before .loop .inv .3)
     (λ c κs. search needs)
     (λ c κs. search needs)
     (λ c κs. search needs)
     (λ c. omega arith)
     (λ c. omega arith)
-    (λ c. (omega arith, omega arith, omega arith, c .first .ensures ∙ firstOf-step _ _ _ _ (c .before .before .before .before .before .loop .inv .3) (c .before .exchange-refusal .ensures ∙ ap (exchangeRefusal _ _) (c .before .before .part .ensures ∙ ap (λ (k : ℕ). take (c .before .before .before .before .before .before .exchange-length .result) (drop k (c .before .before .before .before .before .before .before .before .args .exchanges .now))) (c .before .before .before .of-rounds .ensures .0)))))
-    (λ c. end _ _ _ _ _ _ (c .before .loop .inv .3) (omega arith) (c .before .before .exchange-length .ensures .0)))
+    (λ c. (c .first .ensures ∙ firstOf-step _ _ _ _ (c .before .before .before .before .before .loop .inv .0) (c .before .exchange-refusal .ensures ∙ ap (exchangeRefusal _ _) (c .before .before .part .ensures ∙ ap (λ (k : ℕ). take (c .before .before .before .before .before .before .exchange-length .result) (drop k (c .before .before .before .before .before .before .before .before .args .exchanges .now))) (c .before .before .before .of-rounds .ensures .0))), omega arith, omega arith, omega arith))
+    (λ c. end _ _ _ _ _ _ (c .before .loop .inv .0) (omega arith) (c .before .before .exchange-length .ensures .0)))
