@@ -48,12 +48,12 @@ pub fn body_of(bytes: &[u8], body: Body) -> &[u8]
     part(bytes, body.offset, body.length)
 }
 
-// Whether the table of contents is the one that belongs to the header.
+// Whether the 24 bytes of the table are those that belong to the header.
 fn table_matches(bytes: &[u8], h: Header) -> bool
     ensures { λ r. ⌜ r ≡ same (take 24 (drop 6 (now (bytes .entry)))) (tableOf h) ⌝ }
 {
     let expected = table(h);
-    equal(part(bytes, 6, 24), &expected)
+    equal(part(bytes, 6, 24), part(&expected, 0, 24))
 }
 
 // The refusal of a record's bytes, 0 for none.
