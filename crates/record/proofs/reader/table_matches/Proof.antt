@@ -16,7 +16,7 @@ table-matches-spec =
     (λ c. sym (c .before .before .table .ensures .1))
     (λ c κs. search needs)
     (λ c κs. search needs)
-    (λ c. 
+    (λ c.
     let long = c .before .before .before .before .table .ensures .1 in
     let whole = take-all 24 (c .before .before .before .before .table .result) (omega arith) in
     c .equal .ensures ∙ ap₂ same (c .before .before .before .part .ensures) (c .before .part2 .ensures ∙ whole ∙ c .before .before .before .before .table .ensures .0)))
