@@ -10,7 +10,7 @@ use lib.Dec.{ltb}
 use lib.ListN.{length, take, length-append, length-take, replicate, length-replicate, getD-replicate, List·getD-append, List·getD-eq-default}
 use lib.Seq.{length-take-le, getD-take, getD-append-add, take-append-le, take-at}
 use Rattle.slices.specs.Slices.{_!_, tabulate}
-use Rattle.slices.proofs.Tabulate.{tabulate-at, tabulate-beyond, tabulate-of, tabulate-cong}
+use Rattle.slices.proofs.Tabulate.{length-tabulate, tabulate-at, tabulate-beyond, tabulate-of, tabulate-cong}
 use Rattle.slices.proofs.Sameness.{and-left, and-right}
 use Rattle.field.specs.Ops.{Ops}
 use Rattle.field.specs.Vector.{vector, slotV, IsVector, allBelow}
@@ -36,6 +36,10 @@ stands-last p s place e i h = ap (λ (k : ℕ). (p ++ s) ! (k + i)) (sym e) ∙ 
 -- and those before it
 pub stands-before : (p t s : List ℕ) (place : ℕ) → place + length s ≤ length p → Stands s place p → Stands s place (p ++ t)
 stands-before p t s place room stands i h = List·getD-append p t 0 (place + i) (omega arith) ∙ stands i h
+
+pub length-bytes : (place : ℕ) (l : List ℕ) → length (bytesAt place l) ≡ 32
+unfolding bytesAt
+length-bytes place l = length-tabulate 32 _
 
 pub bytes-back : (s l : List ℕ) (place : ℕ) → length s ≡ 32 → Stands s place l → bytesAt place l ≡ s
 unfolding bytesAt
