@@ -171,56 +171,56 @@ module _ (o : Ops) where
     pub first-long : length (r .first) ≡ 32
     pub second-long : length (r .second) ≡ 32
 
-  pub reply-three-length : (n m : ℕ) (r : ReplyThree) → n ≤ 96 → m ≤ 96 → IsReplyThree n m r → length (replyThreeBytes n m r) ≡ n + n + m + 64
-  unfolding replyThreeBytes
-  reply-three-length n m r hn hm k =
-      let x-long = length-held n (r .x) hn (k .x-is .held) in
-      let y-long = length-held n (r .y) hn (k .y-is .held) in
-      let z-long = length-held m (r .z) hm (k .z-is .held) in
-      simp length-append (omega arith)
+  module _ (n m : ℕ) (r : ReplyThree) (hn : n ≤ 96) (hm : m ≤ 96) (k : IsReplyThree n m r) where
+    after-y : length (take n (r .x) ++ take n (r .y)) ≡ n + n
+    after-y = simp (length-append, length-held n (r .x) hn (k .x-is .held), length-held n (r .y) hn (k .y-is .held))
 
-  pub reply-three-back : (n m : ℕ) (r : ReplyThree) → n ≤ 96 → m ≤ 96 → IsReplyThree n m r → replyThreeIn n m (replyThreeBytes n m r) ≡ r
-  unfolding replyThreeIn replyThreeBytes
-  reply-three-back n m r hn hm k =
-      let x = take n (r .x) in
-      let y = take n (r .y) in
-      let z = take m (r .z) in
-      let f = r .first in
-      let s = r .second in
-      let x-long : length x ≡ n = length-held n (r .x) hn (k .x-is .held) in
-      let y-long : length y ≡ n = length-held n (r .y) hn (k .y-is .held) in
-      let z-long : length z ≡ m = length-held m (r .z) hm (k .z-is .held) in
-      let two : length (x ++ y) ≡ n + n = simp length-append (omega arith) in
-      let three : length (x ++ y ++ z) ≡ n + n + m = simp length-append (omega arith) in
-      let four : length (x ++ y ++ z ++ f) ≡ n + n + m + 32 = simp length-append (omega (arith, k .first-long)) in
-      let l = x ++ y ++ z ++ f ++ s in
-      let in-three : (t : List ℕ) (place : ℕ) → place + length t ≤ n + n + m → Stands t place (x ++ y ++ z) → Stands t place l = λ t place room st.
-      stands-before (x ++ y ++ z ++ f) s t place (omega arith) (stands-before (x ++ y ++ z) f t place (omega arith) st) in
-      let in-two : (t : List ℕ) (place : ℕ) → place + length t ≤ n + n → Stands t place (x ++ y) → Stands t place l = λ t place room st.
-      in-three t place (omega arith) (stands-before (x ++ y) z t place (omega arith) st) in
-      let bx = slot-back n (r .x) l 0 hn (k .x-is .held) (in-two x 0 (omega arith) (stands-before x y x 0 (omega arith) (stands-last [] x 0 refl))) in
-      let by = slot-back n (r .y) l n hn (k .y-is .held) (in-two y n (omega arith) (stands-last x y n x-long)) in
-      let bz = slot-back m (r .z) l (n + n) hm (k .z-is .held) (in-three z (n + n) (omega arith) (stands-last (x ++ y) z (n + n) two)) in
-      let bf = bytes-back f l (n + n + m) (k .first-long) (stands-before (x ++ y ++ z ++ f) s f (n + n + m) (omega (arith, k .first-long)) (stands-last (x ++ y ++ z) f (n + n + m) three)) in
-      let bs = bytes-back s l (n + n + m + 32) (k .second-long) (stands-last (x ++ y ++ z ++ f) s (n + n + m + 32) four) in
-      λ i. record { x = bx i; y = by i; z = bz i; first = bf i; second = bs i }
+    after-z : length (take n (r .x) ++ take n (r .y) ++ take m (r .z)) ≡ n + n + m
+    after-z = length-append (take n (r .x) ++ take n (r .y)) _ ∙ simp (after-y, length-held m (r .z) hm (k .z-is .held))
 
-  pub reply-three-below : (n m : ℕ) (r : ReplyThree) → n ≤ 96 → m ≤ 96 → IsReplyThree n m r →
-      allBelow (o .size) (take (n + n + m) (replyThreeBytes n m r)) ≡ true
-  unfolding replyThreeBytes
-  reply-three-below n m r hn hm k =
-      let x = take n (r .x) in
-      let y = take n (r .y) in
-      let z = take m (r .z) in
-      let x-long : length x ≡ n = length-held n (r .x) hn (k .x-is .held) in
-      let y-long : length y ≡ n = length-held n (r .y) hn (k .y-is .held) in
-      let z-long : length z ≡ m = length-held m (r .z) hm (k .z-is .held) in
-      let three : length (x ++ y ++ z) ≡ n + n + m = simp length-append (omega arith) in
-      let four : length (x ++ y ++ z ++ r .first) ≡ n + n + m + 32 = simp length-append (omega (arith, k .first-long)) in
-      let front : take (n + n + m) (x ++ y ++ z ++ r .first ++ r .second) ≡ x ++ y ++ z =
-      take-append-le (n + n + m) (x ++ y ++ z ++ r .first) (r .second) (omega arith) ∙ take-at (x ++ y ++ z) (r .first) (n + n + m) three in
-      rw front
-      (below-append (o .size) (x ++ y) z (below-append (o .size) x y (below-vector n (r .x) (k .x-is)) (below-vector n (r .y) (k .y-is))) (below-vector m (r .z) (k .z-is)))
+    after-first : length (take n (r .x) ++ take n (r .y) ++ take m (r .z) ++ r .first) ≡ n + n + m + 32
+    after-first = length-append (take n (r .x) ++ take n (r .y) ++ take m (r .z)) _ ∙ simp (after-z, k .first-long)
+
+    pub reply-three-length : length (replyThreeBytes n m r) ≡ n + n + m + 64
+    unfolding replyThreeBytes
+    reply-three-length = length-append (take n (r .x) ++ take n (r .y) ++ take m (r .z) ++ r .first) _ ∙ omega (arith, after-first, k .second-long)
+
+    pub reply-three-back : replyThreeIn n m (replyThreeBytes n m r) ≡ r
+    unfolding replyThreeIn replyThreeBytes
+    reply-three-back =
+        let x = take n (r .x) in
+        let y = take n (r .y) in
+        let z = take m (r .z) in
+        let f = r .first in
+        let s = r .second in
+        let x-long : length x ≡ n = length-held n (r .x) hn (k .x-is .held) in
+        let y-long : length y ≡ n = length-held n (r .y) hn (k .y-is .held) in
+        let z-long : length z ≡ m = length-held m (r .z) hm (k .z-is .held) in
+        let two = after-y in
+        let three = after-z in
+        let four = after-first in
+        let l = x ++ y ++ z ++ f ++ s in
+        let in-four : (t : List ℕ) (place : ℕ) → place + length t ≤ n + n + m + 32 → Stands t place (x ++ y ++ z ++ f) → Stands t place l =
+        λ t place room. stands-before (x ++ y ++ z ++ f) s t place (omega arith) in
+        let in-three : (t : List ℕ) (place : ℕ) → place + length t ≤ n + n + m → Stands t place (x ++ y ++ z) → Stands t place l =
+        λ t place room st. in-four t place (omega arith) (stands-before (x ++ y ++ z) f t place (omega arith) st) in
+        let in-two : (t : List ℕ) (place : ℕ) → place + length t ≤ n + n → Stands t place (x ++ y) → Stands t place l =
+        λ t place room st. in-three t place (omega arith) (stands-before (x ++ y) z t place (omega arith) st) in
+        let bx = slot-back n (r .x) l 0 hn (k .x-is .held) (in-two x 0 (omega arith) (stands-before x y x 0 (omega arith) (stands-last [] x 0 refl))) in
+        let by = slot-back n (r .y) l n hn (k .y-is .held) (in-two y n (omega arith) (stands-last x y n x-long)) in
+        let bz = slot-back m (r .z) l (n + n) hm (k .z-is .held) (in-three z (n + n) (omega arith) (stands-last (x ++ y) z (n + n) two)) in
+        let bf = bytes-back f l (n + n + m) (k .first-long) (in-four f (n + n + m) (omega (arith, k .first-long)) (stands-last (x ++ y ++ z) f (n + n + m) three)) in
+        let bs = bytes-back s l (n + n + m + 32) (k .second-long) (stands-last (x ++ y ++ z ++ f) s (n + n + m + 32) four) in
+        λ i. record { x = bx i; y = by i; z = bz i; first = bf i; second = bs i }
+
+    pub reply-three-below : allBelow (o .size) (take (n + n + m) (replyThreeBytes n m r)) ≡ true
+    unfolding replyThreeBytes
+    reply-three-below =
+        let x = take n (r .x) in
+        let y = take n (r .y) in
+        let z = take m (r .z) in
+        rw (take-append-le (n + n + m) (x ++ y ++ z ++ r .first) (r .second) (omega (arith, after-first)), take-at (x ++ y ++ z) (r .first) (n + n + m) after-z)
+        (below-append (o .size) (x ++ y) z (below-append (o .size) x y (below-vector n (r .x) (k .x-is)) (below-vector n (r .y) (k .y-is))) (below-vector m (r .z) (k .z-is)))
 
   -- ---- a reply of five passes
 

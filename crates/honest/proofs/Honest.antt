@@ -102,6 +102,21 @@ module _ (b : List ℕ) (good : systemRefusal b ≡ 0) where
       (record { x-is = k .r1-is; y-is = k .t1-is; z-is = k .e1-is; first-long = long0; second-long = long2 })
       (record { x-is = k .r1-is; y-is = k .t0-is; z-is = k .e0-is; first-long = long0; second-long = long1 }))
 
+  -- t1 and e1 do not depend on the secret
+  module _ (lent : List ℕ) (h : Lends b lent) (α : ℕ) where
+    pub middle-is : IsMiddle (opsOf b) (nOf b) (mOf b) (fiveMiddle b lent α)
+    unfolding cardFive
+    middle-is =
+        let k = lent-is lent h in
+        let e = elements-five b good α lent _ _ _ (k .r0-is) (k .t0-is) (k .e0-is) in
+        record { t1-is = e .t1-is; e1-is = e .e1-is }
+
+    pub middle-long : length (middleBytes (nOf b) (mOf b) (fiveMiddle b lent α)) ≡ nOf b + mOf b
+    middle-long = let a = accepted b good in middle-length (opsOf b) (nOf b) (mOf b) _ (a .n-high) (a .m-high) middle-is
+
+    pub middle-elements : allBelow (qOf b) (middleBytes (nOf b) (mOf b) (fiveMiddle b lent α)) ≡ true
+    middle-elements = rw size-is at (middle-below (opsOf b) (nOf b) (mOf b) _ middle-is)
+
   module _ (s lent : List ℕ) where
     pub three-are : AreThree (threeCommitted b s lent)
     unfolding threeCommitted commitmentsThree Com
@@ -116,13 +131,6 @@ module _ (b : List ℕ) (good : systemRefusal b ≡ 0) where
     three-reply-is h challenge =
         let k = lent-is lent h in
         replied-is _ (lentIn (nOf b) (mOf b) lent .rhos) (elements-three b good s _ _ _ (k .r0-is) (k .t0-is) (k .e0-is)) (length-bytes _ lent) (length-bytes _ lent) (length-bytes _ lent) challenge
-
-    pub middle-is : Lends b lent → (α : ℕ) → IsMiddle (opsOf b) (nOf b) (mOf b) (fiveMiddle b lent α)
-    unfolding cardFive
-    middle-is h α =
-        let k = lent-is lent h in
-        let e = elements-five b good α s _ _ _ (k .r0-is) (k .t0-is) (k .e0-is) in
-        record { t1-is = e .t1-is; e1-is = e .e1-is }
 
     pub five-reply-is : Lends b lent → (challenge : ℕ) → IsReplyFive (opsOf b) (nOf b) (fiveReplied b s lent challenge)
     unfolding replyFive lentIn
@@ -153,7 +161,7 @@ module _ (b : List ℕ) (good : systemRefusal b ≡ 0) where
           let a = accepted b good in
           let k = lent-is lent h in
           let l = lentIn (nOf b) (mOf b) lent in
-          rw (five-commitments-back _ five-are, middle-back (opsOf b) (nOf b) (mOf b) α (fiveMiddle b lent α) (a .n-high) (a .m-high) (middle-is h α), reply-five-back (opsOf b) (nOf b) (fiveReplied b s lent challenge) (a .n-high) (five-reply-is h challenge))
+          rw (five-commitments-back _ five-are, middle-back (opsOf b) (nOf b) (mOf b) α (fiveMiddle b lent α) (a .n-high) (a .m-high) (middle-is lent h α), reply-five-back (opsOf b) (nOf b) (fiveReplied b s lent challenge) (a .n-high) (five-reply-is h challenge))
           (accepted-five b v (l .rhos) good α s (l .r0) (l .t0) (l .e0) hs (k .t0-is) (k .e0-is) key challenge small)
 
       -- ---- and with the commitments, α, t1 and e1 as the carrier holds them, zero beyond their lengths
@@ -176,8 +184,7 @@ module _ (b : List ℕ) (good : systemRefusal b ≡ 0) where
           let c = fiveCommitments (fiveCommitted b s lent) in
           let middle = α ∷ middleBytes (nOf b) (mOf b) (fiveMiddle b lent α) in
           let long : length c ≡ 64 = length-five-commitments _ five-are in
-          let short : length (middleBytes (nOf b) (mOf b) (fiveMiddle b lent α)) ≡ nOf b + mOf b =
-          middle-length (opsOf b) (nOf b) (mOf b) (fiveMiddle b lent α) (a .n-high) (a .m-high) (middle-is h α) in
+          let short = middle-long lent h α in
           same-verdict b 5 v (vector (length c) (λ i. c ! i)) c (tabulate 193 (λ i. middle ! i)) middle challenge _ (reads-vector c (omega arith))
           (reads-tabulate 193 middle (omega (arith, a .n-high, a .m-high))) ∙
           honest-five α challenge small
@@ -201,12 +208,6 @@ module _ (b : List ℕ) (good : systemRefusal b ≡ 0) where
       three-reply-below challenge =
           let a = accepted b good in
           rw size-is at (reply-three-below (opsOf b) (nOf b) (mOf b) _ (a .n-high) (a .m-high) (three-reply-is h challenge))
-
-      pub middle-long : (α : ℕ) → length (middleBytes (nOf b) (mOf b) (fiveMiddle b lent α)) ≡ nOf b + mOf b
-      middle-long α = let a = accepted b good in middle-length (opsOf b) (nOf b) (mOf b) _ (a .n-high) (a .m-high) (middle-is h α)
-
-      pub middle-elements : (α : ℕ) → allBelow (qOf b) (middleBytes (nOf b) (mOf b) (fiveMiddle b lent α)) ≡ true
-      middle-elements α = rw size-is at (middle-below (opsOf b) (nOf b) (mOf b) _ (middle-is h α))
 
       pub five-reply-long : (challenge : ℕ) → length (replyFiveBytes (nOf b) (fiveReplied b s lent challenge)) ≡ nOf b + 32
       five-reply-long challenge = reply-five-length (opsOf b) (nOf b) _ (accepted b good .n-high) (five-reply-is h challenge)
