@@ -1,66 +1,42 @@
+-- What is refused stays, else t1 and e1 are written. Assumes nothing.
+use mathlib.Core.Path.{_≡_, refl, sym, ap, ap₂, _∙_}
+use native.Mathlib.Omega.{arith}
+use Rattle.refusal.specs.Refusal.{kept}
+use Rattle.refusal.proofs.Refusals.{kept-refused}
+use Rattle.system.specs.System.{nOf, mOf}
+use Rattle.system.proofs.SystemLayout.{accepted, has-sizes}
+use Rattle.exchange.specs.Messages.{middleBytes}
+use Rattle.card.specs.Card.{answeredCard, sentMiddle}
+use Rattle.card.proofs.Taken.{alpha-taken}
 use borrow.Author.Needs.{needs}
 use Rattle.card.proofs.calls.answer_alpha.Statement.{statement}
 use Rattle.card.proofs.calls.answer_alpha.Tie as tie
-use Rattle.card.proofs.calls.answer_alpha.Reads as reads
-use Rattle.card.proofs.calls.answer_alpha.Lts as lts
-use Rattle.card.proofs.calls.alpha_refusal.Reads as alpha-refusal-reads
-use Rattle.card.proofs.session.card_with.Reads as card-with-reads
-use Rattle.card.proofs.session.held_lent.Reads as held-lent-reads
-use Rattle.exchange.proofs.write_middle.Reads as write-middle-reads
-use Rattle.round.proofs.middle.Reads as middle-reads
-use Rattle.slices.proofs.byte_at.Reads as byte-at-reads
-
--- src/calls.rt:158:9
-alpha-refusal-requires : tie.Need-alpha-refusal-requires
-alpha-refusal-requires c κs = search needs
-
--- src/calls.rt:160:9
-returns : tie.Need-returns
-returns c = ?
-
--- src/calls.rt:169:9
-middle-requires : tie.Need-middle-requires
-middle-requires c κs = ?
-
--- src/calls.rt:170:24
-byte-at-requires : tie.Need-byte-at-requires
-byte-at-requires c κs = search needs
-
--- src/calls.rt:170:44
-byte-at-requires-2 : tie.Need-byte-at-requires-2
-byte-at-requires-2 c κs = search needs
-
--- src/calls.rt:170:5
-write-middle-requires : tie.Need-write-middle-requires
-write-middle-requires c κs = ?
-
--- src/calls.rt:173:61
-held-lent-requires : tie.Need-held-lent-requires
-held-lent-requires c κs = search needs
-
--- src/calls.rt:173:15
-card-with-requires : tie.Need-card-with-requires
-card-with-requires c κs = search needs
-
--- src/calls.rt:153:1
-same-length : tie.Need-same-length
-same-length c = search needs
-
--- src/calls.rt:153:1
-returns-2 : tie.Need-returns-2
-returns-2 c = ?
 
 pub answer-alpha-spec : {M : Type 1} → statement M
+unfolding answeredCard sentMiddle middleBytes kept
 answer-alpha-spec =
     tie.close
     (tie.spec
-    alpha-refusal-requires
-    returns
-    middle-requires
-    byte-at-requires
-    byte-at-requires-2
-    write-middle-requires
-    held-lent-requires
-    card-with-requires
-    same-length
-    returns-2)
+    (λ c κs. search needs)
+    (λ c. (c .before .alpha-refusal .ensures, sym (kept-refused _ _ _ (c .if1 .taken)), sym (kept-refused _ _ _ (c .if1 .taken))))
+    (λ c κs. alpha-taken _ _ _ _ (sym (c .before .before .before .before .before .alpha-refusal .ensures) ∙ c .before .before .before .before .if1 .left) .good)
+    (λ c κs. search needs)
+    (λ c κs. search needs)
+    (λ c κs.
+    let k = alpha-taken _ _ _ _ (sym (c .before .before .before .before .before .before .before .before .before .alpha-refusal .ensures) ∙ c .before .before .before .before .before .before .before .before .if1 .left) in
+    let good = accepted _ (k .good) in
+    let fits = has-sizes _ _ _ _ (k .fits) in
+    let n = c .before .before .byte-at .ensures in
+    let m = c .before .byte-at2 .ensures in
+    (rw n (good .n-high), rw m (good .m-high), simp (n, m, fits .1, fits .2) (k .room)))
+    (λ c κs. search needs)
+    (λ c κs. search needs)
+    (λ c. search needs)
+    (λ c.
+    let n = c .before .before .before .before .before .before .before .byte-at .ensures in
+    let m = c .before .before .before .before .before .before .byte-at2 .ensures in
+    let sent = c .before .before .before .before .before .before .before .before .middle .ensures in (
+      sym (c .before .before .before .before .before .before .before .before .before .before .before .before .before .if1 .left) ∙ c .before .before .before .before .before .before .before .before .before .before .before .before .before .before .alpha-refusal .ensures,
+      simp (c .card-with .ensures, c .before .held-lent .ensures),
+      simp (c .before .before .before .before .write-middle .ensures, sent .0, sent .1, n, m),
+    )))

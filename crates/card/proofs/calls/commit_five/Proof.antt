@@ -14,11 +14,10 @@ commit-five-spec =
     (λ c κs. search needs)
     (λ c κs. search needs)
     (λ c κs. search needs)
-    (λ c κs. c .before .before .before .before .before .before .before .before .before .before .before .before .pre .1)
+    (λ c κs. c .before .before .before .before .before .before .before .before .before .before .before .before .before .pre .1)
     (λ c κs. search needs)
     (λ c. search needs)
-    (λ c. 
-    (
+    (λ c. (
       simp (c .card-with .ensures, c .before .before .before .before .before .before .before .before .before .before .before .read-lent .ensures, c .before .before .before .before .before .before .before .before .before .before .before .before .byte-at2 .ensures, c .before .before .before .before .before .before .before .before .before .before .before .before .before .byte-at .ensures),
       simp (c .before .before .before .write-two-commitments .ensures, c .before .before .before .before .before .commitments-five .ensures, c .before .before .before .before .before .before .before .before .before .before .before .read-lent .ensures, c .before .before .before .before .before .before .before .before .before .before .before .before .byte-at2 .ensures, c .before .before .before .before .before .before .before .before .before .before .before .before .before .byte-at .ensures),
     )))

@@ -19,10 +19,10 @@ commit-three-spec =
     (λ c κs. search needs)
     (λ c κs. search needs)
     (λ c κs. search needs)
-    (λ c κs. c .before .before .before .before .before .before .before .before .before .before .before .before .before .pre .1)
+    (λ c κs. c .before .before .before .before .before .before .before .before .before .before .before .before .before .before .before .pre .1)
     (λ c κs. search needs)
     (λ c. search needs)
-    (λ c. 
+    (λ c.
     let e1 = ap (λ (w : P.Vectors (List ℕ) (List ℕ)). w .e1) (c .before .before .before .before .before .before .before .card-three .ensures) in (
       simp (c .card-with .ensures, e1, c .before .before .before .before .before .before .before .before .before .before .before .before .before .read-lent .ensures, c .before .before .before .before .before .before .before .before .before .before .before .before .before .before .byte-at2 .ensures, c .before .before .before .before .before .before .before .before .before .before .before .before .before .before .before .byte-at .ensures),
       simp (c .before .before .before .write-commitments .ensures, c .before .before .before .before .before .commitments-three .ensures, c .before .before .before .before .before .before .before .card-three .ensures, c .before .before .before .before .before .before .before .before .before .before .before .before .before .read-lent .ensures, c .before .before .before .before .before .before .before .before .before .before .before .before .before .before .byte-at2 .ensures, c .before .before .before .before .before .before .before .before .before .before .before .before .before .before .before .byte-at .ensures),

@@ -12,4 +12,4 @@ held-vectors-spec =
     (tie.spec
     (λ c κs. search needs)
     (λ c κs. search needs)
-    (λ c. simp (c .sub-vectors2 .ensures, c .before .sub-vectors .ensures, c .before .before .e1 .ensures, c .before .before .before .e0 .ensures, c .before .before .before .before .t0 .ensures, c .before .before .before .before .before .r0 .ensures, c .before .before .before .before .before .before .s .ensures)))
+    (λ c. simp (c .sub-vectors2 .ensures, c .before .sub-vectors .ensures)))

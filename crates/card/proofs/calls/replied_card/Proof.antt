@@ -1,5 +1,6 @@
 -- By whether a round is left. Assumes nothing.
-use mathlib.Core.Path.{_≡_, sym, _∙_}
+use Prim.Native.Nat.{ℕ, _<_, _≤_}
+use mathlib.Core.Path.{_≡_, subst}
 use borrow.Author.Tests.{lt-ltb, le-ltb}
 use Rattle.slices.specs.Slices.{zeros}
 use Rattle.card.specs.Card.{nextCard, repliedCard}
@@ -16,5 +17,11 @@ replied-card-spec =
     (λ c κs. search needs)
     (λ c κs. search needs)
     (λ c κs. search needs)
-    (λ c. simp (lt-ltb _ _ (c .before .before .if1 .taken), ?))
-    (λ c. ?))
+    (λ c.
+    let count = c .before .before .before .before .next-count .ensures in
+    let below = rw count at (c .before .before .if1 .taken) in
+    simp (lt-ltb _ _ below, c .card-with .ensures, c .before .no-lent .ensures, count))
+    (λ c.
+    let count = c .before .before .before .next-count .ensures in
+    let last = rw count at (c .before .if1 .left) in
+    simp (le-ltb _ _ last) (c .closed-card .ensures)))
