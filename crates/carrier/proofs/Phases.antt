@@ -1,17 +1,16 @@
 -- What the carrier's definitions say of phases, counts and closed sessions. Assumes nothing.
-use Prim.Native.Nat.{ℕ, _≤_, _<_}
+use Prim.Native.Nat.{ℕ, _≤_}
 use mathlib.Core.Path.{_≡_, refl}
-use mathlib.Core.Bool.{Bool, true, false, cond}
-use mathlib.Core.List.{List}
+use mathlib.Core.Bool.{Bool, true, false, cond, _&&_}
+use mathlib.Core.List.{List, _∷_, _++_}
 use native.Mathlib.Omega.{arith}
 use lib.Dec.{ltb, eqb}
-use borrow.Author.Tests.{lt-ltb, le-ltb}
+use borrow.Author.Tests.{le-ltb}
 use Rattle.slices.specs.Slices.{zeros}
 use Rattle.session_state.specs.declared.Verdict.{Verdict}
 use Rattle.session_state.specs.declared.Verdict.the-variants.{Accepted, Rejected}
 use Rattle.session_state.specs.State.{nextCount}
-use Rattle.carrier.specs.declared.session.CarrierPhase.{CarrierPhase}
-use Rattle.carrier.specs.declared.session.CarrierPhase.the-variants.{TakeCommitments, SetAlpha, TakeMiddle, SetChallenge, TakeReply, Closed}
+use Rattle.carrier.specs.declared.session.CarrierPhase.the-variants.{SetAlpha, SetChallenge, Closed}
 use Rattle.carrier.specs.declared.session.Carrier.{Carrier}
 use Rattle.carrier.specs.Carrier.{phaseNumber, closedCarrier, carrierWith, openedCarrier, withCommitments, withAlpha, withMiddle, withChallenge, judgedCarrier}
 
@@ -47,6 +46,16 @@ challenge-open c challenge closed = omega arith
 
 -- ---- "A rejected round closes the session as rejected; the N-th accepted round closes it as accepted."
 
+-- after a judgement the next round's commitments are due, or the session is closed
+pub judged-phase : (c : Carrier) (accepted : Bool) → phaseNumber (judgedCarrier c accepted .phase) ≡ cond (accepted && ltb (nextCount (c .accepted)) (c .rounds)) 1 0
+unfolding phaseNumber judgedCarrier carrierWith closedCarrier
+judged-phase c false = refl
+judged-phase c true = go (ltb (nextCount (c .accepted)) (c .rounds)) refl
+  where
+    go : (more : Bool) → ltb (nextCount (c .accepted)) (c .rounds) ≡ more → phaseNumber (judgedCarrier c true .phase) ≡ cond (ltb (nextCount (c .accepted)) (c .rounds)) 1 0
+    go true e = simp e
+    go false e = simp e
+
 pub rejected-closes : (c : Carrier) → judgedCarrier c false ≡ closedCarrier Rejected (c .accepted)
 unfolding judgedCarrier
 rejected-closes c = refl
@@ -55,20 +64,37 @@ pub last-closes : (c : Carrier) → c .rounds ≤ nextCount (c .accepted) → ju
 unfolding judgedCarrier
 last-closes c last = rw (le-ltb _ _ last)
 
-pub accepted-open : (c : Carrier) → nextCount (c .accepted) < c .rounds → Open (judgedCarrier c true)
-unfolding phaseNumber judgedCarrier carrierWith
-accepted-open c more closed = let due = simp (lt-ltb _ _ more) at closed in omega arith
-
--- ---- "The closed session keeps the verdict and the count of accepted rounds. Its other numbers are zero."
-
-pub accepted-count : (c : Carrier) → judgedCarrier c true .accepted ≡ nextCount (c .accepted)
-unfolding judgedCarrier carrierWith closedCarrier
-accepted-count c = go (ltb (nextCount (c .accepted)) (c .rounds))
-  where
-    go : (more : Bool) → cond more (carrierWith c TakeCommitments (nextCount (c .accepted)) (zeros 96) (zeros 193) 0) (closedCarrier Accepted (nextCount (c .accepted))) .accepted ≡ nextCount (c .accepted)
-    go true = refl
-    go false = refl
+-- ---- the count of accepted rounds
 
 pub rejected-count : (c : Carrier) → judgedCarrier c false .accepted ≡ c .accepted
 unfolding judgedCarrier closedCarrier
 rejected-count c = refl
+
+pub accepted-count : (c : Carrier) → judgedCarrier c true .accepted ≡ nextCount (c .accepted)
+unfolding judgedCarrier carrierWith closedCarrier
+accepted-count c = go (ltb (nextCount (c .accepted)) (c .rounds)) refl
+  where
+    go : (more : Bool) → ltb (nextCount (c .accepted)) (c .rounds) ≡ more → judgedCarrier c true .accepted ≡ nextCount (c .accepted)
+    go true e = simp e
+    go false e = simp e
+
+-- no other call changes it
+pub count-kept : (c : Carrier) (commitments middle : List ℕ) (α challenge : ℕ) →
+    (withCommitments c commitments .accepted ≡ c .accepted) × (withAlpha c α .accepted ≡ c .accepted) ×
+    (withMiddle c middle .accepted ≡ c .accepted) × (withChallenge c challenge .accepted ≡ c .accepted)
+unfolding carrierWith withCommitments withAlpha withMiddle withChallenge
+count-kept c commitments middle α challenge = (refl, refl, refl, refl)
+
+-- ---- "The closed session keeps the verdict and the count of accepted rounds. Its other numbers are zero."
+
+pub closed-keeps : (verdict : Verdict) (count : ℕ) → (closedCarrier verdict count .phase ≡ Closed verdict) × (closedCarrier verdict count .accepted ≡ count)
+unfolding closedCarrier
+closed-keeps verdict count = (refl, refl)
+
+-- all numbers of a session but the count
+abbrev pub otherNumbers : Carrier → List ℕ
+otherNumbers c = c .scheme ∷ c .q ∷ c .n ∷ c .m ∷ c .rounds ∷ c .challenge ∷ (c .v ++ c .commitments ++ c .middle)
+
+pub closed-zero : (verdict : Verdict) (count : ℕ) → otherNumbers (closedCarrier verdict count) ≡ zeros 391
+unfolding closedCarrier zeros
+closed-zero verdict count = refl
