@@ -1,14 +1,13 @@
--- One branch: what is refused stays, else the session goes on. Assumes nothing.
-use mathlib.Core.Path.{sym, _∙_}
+-- The callees' answers, put together. Assumes nothing.
+use mathlib.Core.Path.{ap, _∙_}
 use Rattle.refusal.specs.Refusal.{kept}
-use Rattle.refusal.proofs.Refusals.{kept-refused}
 use Rattle.carrier.specs.Carrier.{alphaRefusal, withAlpha}
 use borrow.Author.Needs.{needs}
 use Rattle.carrier.proofs.calls.set_alpha.Statement.{statement}
 use Rattle.carrier.proofs.calls.set_alpha.Tie as tie
 
 pub set-alpha-spec : {M : Type 1} → statement M
-unfolding alphaRefusal withAlpha kept
+unfolding alphaRefusal withAlpha
 set-alpha-spec =
     tie.close
     (tie.spec
@@ -16,8 +15,8 @@ set-alpha-spec =
     (λ c κs. search needs)
     (λ c κs. search needs)
     (λ c κs. search needs)
-    (λ c. (simp (c .before .first .ensures, c .before .before .unless .ensures, c .before .before .before .before .state-refusal .ensures, c .before .before .before .before .before .phase-number .ensures), sym (kept-refused _ _ _ (c .if1 .taken))))
     (λ c. search needs)
     (λ c κs. search needs)
     (λ c κs. search needs)
-    (λ c. (sym (c .before .before .before .before .if1 .left) ∙ simp (c .before .before .before .before .before .first .ensures, c .before .before .before .before .before .before .unless .ensures, c .before .before .before .before .before .before .before .before .state-refusal .ensures, c .before .before .before .before .before .before .before .before .before .phase-number .ensures), simp (c .carrier-with .ensures, c .before .held-middle .ensures))))
+    (λ c κs. search needs)
+    (λ c. (simp (c .answer .ensures .0, c .before .before .before .before .before .first .ensures, c .before .before .before .before .before .before .unless .ensures, c .before .before .before .before .before .before .before .before .state-refusal .ensures, c .before .before .before .before .before .before .before .before .before .phase-number .ensures), c .answer .ensures .1 ∙ ap (kept _ _) (simp (c .before .carrier-with .ensures, c .before .before .held-middle .ensures)))))
