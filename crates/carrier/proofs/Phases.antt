@@ -10,42 +10,9 @@ use Rattle.slices.specs.Slices.{zeros}
 use Rattle.session_state.specs.declared.Verdict.{Verdict}
 use Rattle.session_state.specs.declared.Verdict.the-variants.{Accepted, Rejected}
 use Rattle.session_state.specs.State.{nextCount}
-use Rattle.session_state.proofs.States.{unless-most, orElse-most, eleven}
-use Rattle.system.specs.System.{systemRefusal}
 use Rattle.carrier.specs.declared.session.CarrierPhase.the-variants.{SetAlpha, SetChallenge, Closed}
 use Rattle.carrier.specs.declared.session.Carrier.{Carrier}
-use Rattle.carrier.specs.Carrier.{phaseNumber, closedCarrier, carrierWith, openedCarrier, commitmentsRefusal, withCommitments, alphaRefusal, withAlpha, middleRefusal, withMiddle, challengeRefusal, withChallenge, replyRefusal, judgedCarrier}
-
--- ---- "11 a closed session": the answer of each call exactly where none is due
-
-pub commitments-eleven : (c : Carrier) (commitments : List ℕ) → eqb (commitmentsRefusal c commitments) 11 ≡ eqb (phaseNumber (c .phase)) 0
-unfolding commitmentsRefusal
-commitments-eleven c commitments = eleven _ 1 _ (unless-most _ 2 9 (omega arith))
-
-pub alpha-eleven : (c : Carrier) (α : ℕ) → eqb (alphaRefusal c α) 11 ≡ eqb (phaseNumber (c .phase)) 0
-unfolding alphaRefusal
-alpha-eleven c α = eleven _ 2 _ (unless-most _ 3 9 (omega arith))
-
-pub middle-eleven : (c : Carrier) (middle : List ℕ) → eqb (middleRefusal c middle) 11 ≡ eqb (phaseNumber (c .phase)) 0
-unfolding middleRefusal
-middle-eleven c middle = eleven _ 3 _ (orElse-most _ _ 9 (unless-most _ 2 9 (omega arith)) (unless-most _ 3 9 (omega arith)))
-
-pub challenge-eleven : (c : Carrier) (challenge : ℕ) → eqb (challengeRefusal c challenge) 11 ≡ eqb (phaseNumber (c .phase)) 0
-unfolding challengeRefusal
-challenge-eleven c challenge = eleven _ 4 _ (unless-most _ 4 9 (omega arith))
-
-system-most : (b : List ℕ) → systemRefusal b ≤ 9
-unfolding systemRefusal
-system-most b =
-    orElse-most _ _ 9 (unless-most _ 2 9 (omega arith))
-    (orElse-most _ _ 9 (unless-most _ 1 9 (omega arith)) (orElse-most _ _ 9 (unless-most _ 2 9 (omega arith)) (unless-most _ 3 9 (omega arith))))
-
-pub reply-eleven : (c : Carrier) (b reply : List ℕ) → eqb (replyRefusal c b reply) 11 ≡ eqb (phaseNumber (c .phase)) 0
-unfolding replyRefusal
-reply-eleven c b reply =
-    eleven _ 5 _
-    (orElse-most _ _ 9 (system-most b)
-    (orElse-most _ _ 9 (unless-most _ 7 9 (omega arith)) (orElse-most _ _ 9 (unless-most _ 2 9 (omega arith)) (unless-most _ 3 9 (omega arith)))))
+use Rattle.carrier.specs.Carrier.{phaseNumber, closedCarrier, carrierWith, openedCarrier, withCommitments, withAlpha, withMiddle, withChallenge, judgedCarrier}
 
 -- ---- only a closing or a refused opening closes a session
 

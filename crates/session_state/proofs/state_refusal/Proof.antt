@@ -1,4 +1,4 @@
--- By cases on the phase. Assumes nothing.
+-- By whether the session is closed. Assumes nothing.
 use borrow.Author.Tests.{ne-eqb}
 use Rattle.session_state.specs.State.{stateRefusal}
 use borrow.Author.Needs.{needs}
@@ -12,4 +12,4 @@ state-refusal-spec =
     (tie.spec
     (λ c κs. search needs)
     (λ c. rw (c .if1 .taken))
-    (λ c. simp (ne-eqb _ 0 (c .before .if1 .left), c .unless .ensures)))
+    (λ c. simp (ne-eqb _ 0 (c .before .if1 .left)) (c .unless .ensures)))

@@ -2,7 +2,7 @@
 use Prim.Native.Nat.{ℕ}
 use mathlib.Core.Path.{_≡_, sym, ap, _∙_}
 use mathlib.Core.List.{List}
-use Rattle.refusal.specs.Refusal.{unless, kept}
+use Rattle.refusal.specs.Refusal.{kept}
 use Rattle.refusal.proofs.Refusals.{kept-refused, first-zero, later-zero}
 use Rattle.system.specs.System.{systemRefusal}
 use Rattle.carrier.specs.declared.session.Carrier.{Carrier}
