@@ -15,7 +15,7 @@ use Rattle.scheme.specs.Scheme.{isScheme, isRounds, challenges, commitmentsLeng
 use Rattle.session_state.specs.State.{stateRefusal}
 use Rattle.session_state.proofs.States.{state-due, due-state}
 use Rattle.card.specs.declared.session.Card.{Card}
-use Rattle.card.specs.Card.{phaseNumber, held, openForm, openRefusal, commitRefusal, alphaRefusal, replyRefusal}
+use Rattle.card.specs.Card.{phaseNumber, held, openForm, openRefusal, lentRefusal, commitRefusal, alphaRefusal, replyRefusal}
 
 -- ---- open
 
@@ -60,30 +60,29 @@ pub record CommitTaken (card : Card) (b lent : List ℕ) (out : ℕ) : Type 0 wh
   pub elements : allBelow (card .q) (take (card .n + card .n + card .m) lent) ≡ true
 
 pub commit-taken : (card : Card) (b lent : List ℕ) (out : ℕ) → commitRefusal card b lent out ≡ 0 → CommitTaken card b lent out
-unfolding commitRefusal
+unfolding commitRefusal lentRefusal
 commit-taken card b lent out none =
     let vectors = card .n + card .n + card .m in
     let after-state = later-zero _ _ none in
-    let after-system = later-zero _ _ after-state in
-    let after-sizes = later-zero _ _ after-system in
+    let system = first-zero _ _ after-state in
+    let after-sizes = later-zero _ _ after-state in
     let after-lent = later-zero _ _ after-sizes in
     record {
       due = state-due (phaseNumber (card .phase)) 1 (first-zero _ _ none);
-      good = first-zero _ _ after-state;
-      fits = test-holds (hasSizes b (card .q) (card .n) (card .m)) 7 tt (first-zero _ _ after-system);
+      good = first-zero _ _ system;
+      fits = test-holds (hasSizes b (card .q) (card .n) (card .m)) 7 tt (later-zero _ _ system);
       lent-length = equal-holds (length lent) (vectors + commitmentsLength (card .scheme)) 2 tt (first-zero _ _ after-sizes);
       room = equal-holds out (commitmentsLength (card .scheme)) 2 tt (first-zero _ _ after-lent);
       elements = test-holds (allBelow (card .q) (take vectors lent)) 3 tt (later-zero _ _ after-lent);
     }
 
 pub commit-due : (card : Card) (b lent : List ℕ) (out : ℕ) → CommitTaken card b lent out → commitRefusal card b lent out ≡ 0
-unfolding commitRefusal
+unfolding commitRefusal lentRefusal
 commit-due card b lent out k =
     both-zero _ _ (due-state (phaseNumber (card .phase)) 1 (k .due) (λ e. absurd (omega arith)))
-    (both-zero _ _ (k .good)
-    (both-zero _ _ (unless-holds _ 7 (k .fits))
+    (both-zero _ _ (both-zero _ _ (k .good) (unless-holds _ 7 (k .fits)))
     (both-zero _ _ (unless-holds _ 2 (eq-eqb (length lent) (card .n + card .n + card .m + commitmentsLength (card .scheme)) (k .lent-length)))
-    (both-zero _ _ (unless-holds _ 2 (eq-eqb out (commitmentsLength (card .scheme)) (k .room))) (unless-holds _ 3 (k .elements))))))
+    (both-zero _ _ (unless-holds _ 2 (eq-eqb out (commitmentsLength (card .scheme)) (k .room))) (unless-holds _ 3 (k .elements)))))
 
 -- ---- reply to α
 
@@ -95,26 +94,25 @@ pub record AlphaTaken (card : Card) (b : List ℕ) (α out : ℕ) : Type 0 where
   pub element : α < card .q
 
 pub alpha-taken : (card : Card) (b : List ℕ) (α out : ℕ) → alphaRefusal card b α out ≡ 0 → AlphaTaken card b α out
-unfolding alphaRefusal
+unfolding alphaRefusal lentRefusal
 alpha-taken card b α out none =
     let after-state = later-zero _ _ none in
-    let after-system = later-zero _ _ after-state in
-    let after-sizes = later-zero _ _ after-system in
+    let system = first-zero _ _ after-state in
+    let after-sizes = later-zero _ _ after-state in
     record {
       due = state-due (phaseNumber (card .phase)) 2 (first-zero _ _ none);
-      good = first-zero _ _ after-state;
-      fits = test-holds (hasSizes b (card .q) (card .n) (card .m)) 7 tt (first-zero _ _ after-system);
+      good = first-zero _ _ system;
+      fits = test-holds (hasSizes b (card .q) (card .n) (card .m)) 7 tt (later-zero _ _ system);
       room = equal-holds out (card .n + card .m) 2 tt (first-zero _ _ after-sizes);
       element = ltb-true α (card .q) (test-holds _ 3 tt (later-zero _ _ after-sizes));
     }
 
 pub alpha-due : (card : Card) (b : List ℕ) (α out : ℕ) → AlphaTaken card b α out → alphaRefusal card b α out ≡ 0
-unfolding alphaRefusal
+unfolding alphaRefusal lentRefusal
 alpha-due card b α out k =
     both-zero _ _ (due-state (phaseNumber (card .phase)) 2 (k .due) (λ e. absurd (omega arith)))
-    (both-zero _ _ (k .good)
-    (both-zero _ _ (unless-holds _ 7 (k .fits))
-    (both-zero _ _ (unless-holds _ 2 (eq-eqb out (card .n + card .m) (k .room))) (unless-holds _ 3 (lt-ltb α (card .q) (k .element))))))
+    (both-zero _ _ (both-zero _ _ (k .good) (unless-holds _ 7 (k .fits)))
+    (both-zero _ _ (unless-holds _ 2 (eq-eqb out (card .n + card .m) (k .room))) (unless-holds _ 3 (lt-ltb α (card .q) (k .element)))))
 
 -- ---- reply
 

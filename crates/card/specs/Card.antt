@@ -120,6 +120,10 @@ openedCard b scheme rounds s =
       rho2 = zeros 32;
     }
 
+-- "then the system (2 if under 3 bytes, then 1, 2, 3), then 7 against a session"
+unfoldable pub lentRefusal : Card → List ℕ → ℕ
+lentRefusal card b = systemRefusal b orElse unless (hasSizes b (card .q) (card .n) (card .m)) 7
+
 -- ---- commit(system, lent, out)
 
 -- "11, 10; then the system, then 7 against a session; then arguments left to right, all 1, all 2, all 3"
@@ -127,8 +131,7 @@ unfoldable pub commitRefusal : Card → List ℕ → List ℕ → ℕ → ℕ
 commitRefusal card b lent out =
     let vectors = card .n + card .n + card .m in
     stateRefusal (phaseNumber (card .phase)) 1 orElse
-    systemRefusal b orElse
-    unless (hasSizes b (card .q) (card .n) (card .m)) 7 orElse
+    lentRefusal card b orElse
     unless (eqb (length lent) (vectors + commitmentsLength (card .scheme))) 2 orElse
     unless (eqb out (commitmentsLength (card .scheme))) 2 orElse
     unless (allBelow (card .q) (take vectors lent)) 3
@@ -149,8 +152,7 @@ sentCommitments card b lent =
 unfoldable pub alphaRefusal : Card → List ℕ → ℕ → ℕ → ℕ
 alphaRefusal card b α out =
     stateRefusal (phaseNumber (card .phase)) 2 orElse
-    systemRefusal b orElse
-    unless (hasSizes b (card .q) (card .n) (card .m)) 7 orElse
+    lentRefusal card b orElse
     unless (eqb out (card .n + card .m)) 2 orElse
     unless (ltb α (card .q)) 3
 

@@ -4,7 +4,7 @@ use Prim.Native.Nat.{ℕ, _+_, _<_}
 use mathlib.Core.Path.{_≡_}
 use mathlib.Core.Bool.{Bool, true, cond}
 use mathlib.Core.List.{List, [], _∷_}
-use Option.{Option, some, none}
+use mathlib.Core.Option.{Option, some, none}
 use lib.Dec.{eqb}
 use lib.ListN.{length, take}
 use Rattle.slices.specs.Slices.{_!_}
@@ -172,21 +172,26 @@ Due o w (takeReply b r) =
     (CarrierCalls.phaseNumber (w .carrier .phase) ≡ 5) × (b ≡ o .system) × (length r ≡ replyLength (o .scheme) n m) ×
     Elements (qOf (o .system)) (take (vectorsLength (o .scheme) n m) r)
 
--- the messages of a round before its reply, as they were given: commitments; nothing, or α, t1 and e1; the challenge
-pub record Messages (o : Opening) (w : World) (r : ℕ) (commitments middle : List ℕ) (challenge : ℕ) : Type 0 where
-  pub commitments-given : w .given .commitments r ≡ some commitments
-  pub challenge-given : w .asked .challenges r ≡ some challenge
-  pub alpha : (o .scheme ≡ 3 → ⊥) → w .asked .alphas r ≡ some (middle ! 0)
-  pub middle-given : (o .scheme ≡ 3 → ⊥) → (l : List ℕ) → w .given .middles r ≡ some l → middle ≡ middle ! 0 ∷ l
+-- what stands between commitments and challenge, as it was given: nothing, or α, t1 and e1
+pub data Middle (o : Opening) (w : World) (r : ℕ) : List ℕ → Type 0 where
+  none-sent : o .scheme ≡ 3 → Middle o w r []
+  sent : (o .scheme ≡ 3 → ⊥) → (α : ℕ) (l : List ℕ) → w .asked .alphas r ≡ some α → w .given .middles r ≡ some l → Middle o w r (α ∷ l)
 
 -- "each taking of a reply that isn't refused answers accept, its round being accepted by the scheme's check"
 unfoldable pub Accepts : Opening → World → Call → Type 0
 Accepts o w (takeReply b r) =
     refusal w (takeReply b r) ≡ 0 →
     (CarrierCalls.acceptsReply (w .carrier) b r ≡ true) ×
-    ((commitments middle : List ℕ) (challenge : ℕ) → Messages o w (w .carrierRound) commitments middle challenge →
+    ((commitments middle : List ℕ) (challenge : ℕ) → w .given .commitments (w .carrierRound) ≡ some commitments → Middle o w (w .carrierRound) middle →
+    w .asked .challenges (w .carrierRound) ≡ some challenge →
     accepts (o .system) (o .scheme) (vector (length (o .key)) (λ i. o .key ! i)) commitments middle challenge r ≡ true)
-Accepts o w c = Unit
+Accepts o w (commit b lent out) = Unit
+Accepts o w (answerAlpha b α out) = Unit
+Accepts o w (reply challenge out) = Unit
+Accepts o w (takeCommitments commitments) = Unit
+Accepts o w (setAlpha α) = Unit
+Accepts o w (takeMiddle middle) = Unit
+Accepts o w (setChallenge challenge) = Unit
 
 -- "once round N's reply has been taken by such a call, the carrier's session is closed as accepted with the count N, and the card's is closed"
 unfoldable pub Ended : Opening → World → Type 0
