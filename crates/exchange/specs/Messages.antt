@@ -69,3 +69,15 @@ threeCommitments c = c .c0 ++ c .c1 ++ c .c2
 -- "r0, t1, e1, ρ1, ρ2", "r1, t1, e1, ρ0, ρ2", "r1, t0, e0, ρ0, ρ1"
 unfoldable pub replyThreeBytes : ℕ → ℕ → ReplyThree → List ℕ
 replyThreeBytes n m r = take n (r .x) ++ take n (r .y) ++ take m (r .z) ++ r .first ++ r .second
+
+-- the two commitments of a five-pass round
+unfoldable pub fiveCommitments : Commitments → List ℕ
+fiveCommitments c = c .c0 ++ c .c1
+
+-- "The card sends t1 = αr0 - t0, then e1 = αF(r0) - e0."
+unfoldable pub middleBytes : ℕ → ℕ → Middle → List ℕ
+middleBytes n m sent = take n (sent .t1) ++ take m (sent .e1)
+
+-- "reply r0, ρ0", "reply r1, ρ1"
+unfoldable pub replyFiveBytes : ℕ → ReplyFive → List ℕ
+replyFiveBytes n r = take n (r .x) ++ r .rho

@@ -19,4 +19,7 @@ pub use read::read_middle;
 pub use read::read_reply_five;
 pub use read::read_reply_three;
 pub use write::write_commitments;
+pub use write::write_middle;
+pub use write::write_reply_five;
 pub use write::write_reply_three;
+pub use write::write_two_commitments;

@@ -1,12 +1,14 @@
 // Messages put together in a lent output of their length.
 use round::Commitments;
+use round::Middle;
+use round::ReplyFive;
 use round::ReplyThree;
 use slices::put;
 ghost use mathlib.Core.Path.{_≡_};
 ghost use Prim.Native.Nat.{_+_, _≤_};
 ghost use lib.ListN.{length, take};
 ghost use Rattle.slices.specs.Slices.{placed};
-ghost use Rattle.exchange.specs.Messages.{threeCommitments, replyThreeBytes};
+ghost use Rattle.exchange.specs.Messages.{threeCommitments, fiveCommitments, replyThreeBytes, middleBytes, replyFiveBytes};
 
 // Puts n elements of v from `at` on.
 fn put_vector(out: &mut [u8], at: usize, v: [u8; 96], n: u8)
@@ -55,4 +57,37 @@ pub fn write_reply_three(r: ReplyThree, n: u8, m: u8, out: &mut [u8])
     put_vector(out, after_y, z, m);
     put_bytes(out, after_z, first);
     put_bytes(out, after_z + 32, second);
+}
+
+// c0 and c1.
+pub fn write_two_commitments(c: Commitments, out: &mut [u8])
+    requires { ⌜ length (now out) ≡ 64 ⌝ }
+    ensures { λ _. ⌜ now (out .exit) ≡ fiveCommitments c ⌝ }
+{
+    let c0 = c.c0;
+    let c1 = c.c1;
+    put_bytes(out, 0, c0);
+    put_bytes(out, 32, c1);
+}
+
+// t1 and e1.
+pub fn write_middle(sent: Middle, n: u8, m: u8, out: &mut [u8])
+    requires { ⌜ (n ≤ 96) × (m ≤ 96) × (length (now out) ≡ n + m) ⌝ }
+    ensures { λ _. ⌜ now (out .exit) ≡ middleBytes n m sent ⌝ }
+{
+    let t1 = sent.t1;
+    let e1 = sent.e1;
+    put_vector(out, 0, t1, n);
+    put_vector(out, n as usize, e1, m);
+}
+
+// A reply of five passes.
+pub fn write_reply_five(r: ReplyFive, n: u8, out: &mut [u8])
+    requires { ⌜ (n ≤ 96) × (length (now out) ≡ n + 32) ⌝ }
+    ensures { λ _. ⌜ now (out .exit) ≡ replyFiveBytes n r ⌝ }
+{
+    let x = r.x;
+    let rho = r.rho;
+    put_vector(out, 0, x, n);
+    put_bytes(out, n as usize, rho);
 }

@@ -5,11 +5,16 @@ use mathlib.Core.Bool.{Bool, true, false, false≢true}
 use native.Mathlib.Nat.{mod-lt, mul-le-mul, pos-of-ne-zero}
 use lib.Dec.{lit<, lit≤}
 use borrow.Author.Tests.{ne-eqb}
-use Rattle.field.specs.Ops.{isField, modulus}
+use Rattle.field.specs.Ops.{isField, modulus, ops}
 
 pub modulus-field : (q : ℕ) → isField q ≡ true → modulus q ≡ q
 unfolding modulus
 modulus-field q h = simp h
+
+-- the elements of a field's q are the numbers below it
+pub size-of : (q : ℕ) → isField q ≡ true → ops q .size ≡ q
+unfolding ops
+size-of = modulus-field
 
 pub modulus-other : (q : ℕ) → isField q ≡ false → modulus q ≡ 1
 unfolding modulus

@@ -7,7 +7,7 @@ use native.Mathlib.Nat.{not-suc-le-zero, eq-or-lt-of-le, le-of-suc-le-suc, le-re
 use native.Mathlib.Numerals.{add-one}
 use native.Mathlib.Omega.{arith}
 use lib.Dec.{T, eqb, ltb}
-use borrow.Author.Tests.{eqb-true}
+use borrow.Author.Tests.{eqb-true, ne-eqb}
 use Rattle.refusal.specs.Refusal.{unless, _orElse_, firstOf, kept}
 
 -- no refusal: none of the two
@@ -85,3 +85,12 @@ orElse-assoc a b c = go (eqb a 0) refl
     go : (t : Bool) → eqb a 0 ≡ t → cond (eqb (cond (eqb a 0) b a) 0) c (cond (eqb a 0) b a) ≡ cond (eqb a 0) (cond (eqb b 0) c b) a
     go true e = rw e
     go false e = simp e
+
+-- the first decides where it refuses, else the later
+pub first-decides : (a b : ℕ) → (a ≡ 0 → ⊥) → (a orElse b) ≡ a
+unfolding _orElse_
+first-decides a b some = simp (ne-eqb a 0 some)
+
+pub later-decides : (a b : ℕ) → a ≡ 0 → (a orElse b) ≡ b
+unfolding _orElse_
+later-decides a b none = rw none

@@ -1,13 +1,12 @@
 -- Document 01, "Report program": the text for an input.
 use Prim.Native.Nat.{ℕ, zero, suc, _+_}
-use mathlib.Core.Bool.{Bool, cond, _&&_}
+use mathlib.Core.Bool.{cond}
 use mathlib.Core.List.{List, [], _++_}
 use lib.Dec.{leb, eqb}
 use lib.ListN.{length, take, drop}
 use Rattle.slices.specs.Slices.{placed}
 use Rattle.refusal.specs.Refusal.{unless, _orElse_}
-use Rattle.system.specs.System.{qOf, nOf, mOf, systemLength, systemRefusal}
-use Rattle.record.specs.declared.layout.Header.{Header}
+use Rattle.system.specs.System.{qOf, nOf, mOf, systemLength, hasSizes, systemRefusal}
 use Rattle.record.specs.Reader.{headerIn, recordRefusal}
 use Rattle.transcript.specs.Transcript.{roundChallenge, acceptedRound, acceptedCount}
 use Rattle.report_lines.specs.ReportLines.{roundLine, verdictLine, refusedLine}
@@ -19,17 +18,14 @@ systemPart input = take (systemLength (nOf input) (mOf input)) input
 unfoldable pub recordPart : List ℕ → List ℕ
 recordPart input = drop (systemLength (nOf input) (mOf input)) input
 
--- 7: "q, n or m of the system differ from the session's or record's"
-unfoldable pub fits : List ℕ → Header → Bool
-fits system h = eqb (qOf system) (h .q) && (eqb (nOf system) (h .n) && eqb (mOf system) (h .m))
-
 -- "65,536 bytes together at most, else it prints `refused 2`"; "Audit and report check the system before any record."
 unfoldable pub reportRefusal : List ℕ → ℕ
 reportRefusal input =
+    let h = headerIn (recordPart input) in
     unless (leb (length input) 65536) 2 orElse
     systemRefusal (systemPart input) orElse
     recordRefusal (recordPart input) orElse
-    unless (fits (systemPart input) (headerIn (recordPart input))) 7
+    unless (hasSizes (systemPart input) (h .q) (h .n) (h .m)) 7
 
 -- the lines of the first n rounds: "All rounds are judged."
 unfoldable pub roundLines : List ℕ → List ℕ → ℕ → List ℕ

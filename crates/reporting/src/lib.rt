@@ -2,7 +2,6 @@
 //
 // The entry `report` takes any bytes. It writes the text to the front of a lent buffer of 8,192 bytes, which holds the longest
 // text, and answers the text's length; a buffer of another length stays as it is, and the answer is 0.
-use record::Header;
 use record::header_of;
 use record::read;
 use record::refusal_of;
@@ -14,6 +13,7 @@ use report_lines::verdict_line;
 use slices::byte_at;
 use slices::part;
 use system::check;
+use system::has_sizes;
 use system::system_length;
 use transcript::accepts_round;
 use transcript::round_challenge;
@@ -23,7 +23,7 @@ ghost use Prim.Native.Nat.{_+_, _≤_, _<_};
 ghost use lib.ListN.{length};
 ghost use Rattle.slices.specs.Slices.{placed};
 ghost use Rattle.system.specs.System.{systemRefusal};
-ghost use Rattle.reporting.specs.Report.{systemPart, recordPart, fits as fitsIn, reportRefusal, judgedText, reportLength, reportOut};
+ghost use Rattle.reporting.specs.Report.{systemPart, recordPart, reportRefusal, judgedText, reportLength, reportOut};
 
 // The system at the front of the input.
 fn system_part(input: &[u8]) -> &[u8]
@@ -47,21 +47,6 @@ fn record_part(input: &[u8]) -> &[u8]
     )
 }
 
-// Whether a record's q, n and m are the system's.
-fn fits(system: &[u8], h: Header) -> bool
-    ensures { λ r. ⌜ r ≡ fitsIn (now (system .entry)) h ⌝ }
-{
-    if byte_at(system, 0) == h.q {
-        if byte_at(system, 1) == h.n {
-            byte_at(system, 2) == h.m
-        } else {
-            false
-        }
-    } else {
-        false
-    }
-}
-
 // The refusal of an input, 0 for none.
 fn report_refusal(input: &[u8]) -> u8
     ensures { λ r. ⌜ r ≡ reportRefusal (now (input .entry)) ⌝ }
@@ -69,9 +54,10 @@ fn report_refusal(input: &[u8]) -> u8
     let system = system_part(input);
     let bytes = record_part(input);
     let front = first(unless(input.len() <= 65536, 2), check(system));
+    let h = header_of(bytes);
     let back = first(
         refusal_of(read(bytes)),
-        unless(fits(system, header_of(bytes)), 7),
+        unless(has_sizes(system, h.q, h.n, h.m), 7),
     );
     first(front, back)
 }

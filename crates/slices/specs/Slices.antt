@@ -3,7 +3,7 @@ use Prim.Native.Nat.{ℕ, zero, suc, _+_}
 use mathlib.Core.List.{List, [], _∷_, _++_}
 use mathlib.Core.Bool.{Bool, true, false, _&&_}
 use lib.Dec.{eqb}
-use lib.ListN.{length, getD, take, drop}
+use lib.ListN.{length, getD, take, drop, replicate}
 
 infixl 90 _!_
 -- what stands at place i of a list, from 0; 0 beyond its end
@@ -25,3 +25,7 @@ same (x ∷ xs) (y ∷ ys) = eqb x y && same xs ys
 -- a list with s in the place of what stands from a place on
 unfoldable pub placed : List ℕ → ℕ → List ℕ → List ℕ
 placed l place s = take place l ++ (s ++ drop (place + length s) l)
+
+-- n zeros
+unfoldable pub zeros : ℕ → List ℕ
+zeros n = replicate n 0

@@ -16,7 +16,7 @@ use Rattle.refusal.specs.Refusal.{unless, _orElse_}
 use Rattle.refusal.proofs.Refusals.{first-zero, later-zero, test-holds}
 use Rattle.field.specs.Ops.{isField}
 use Rattle.field.specs.Vector.{allBelow}
-use Rattle.system.specs.System.{qOf, nOf, mOf, width, systemLength, isSize, areSizes, systemRefusal, WellFormedSystem, triangle}
+use Rattle.system.specs.System.{qOf, nOf, mOf, width, systemLength, isSize, areSizes, hasSizes, systemRefusal, WellFormedSystem, triangle}
 
 -- ---- widths
 
@@ -108,6 +108,20 @@ accepted b h =
       whole = eqb-true (length b) (systemLength (nOf b) (mOf b)) (test-holds _ 2 tt (first-zero _ _ (later-zero _ _ (later-zero _ _ h))));
       elements = test-holds (allBelow (qOf b) (drop 3 b)) 3 tt (later-zero _ _ (later-zero _ _ (later-zero _ _ h)));
     }
+
+-- the system has this q, n and m
+pub has-sizes : (b : List ℕ) (q n m : ℕ) → hasSizes b q n m ≡ true → (qOf b ≡ q) × (nOf b ≡ n) × (mOf b ≡ m)
+unfolding hasSizes
+has-sizes b q n m e =
+    let rest = and-right (eqb (qOf b) q) (eqb (nOf b) n && eqb (mOf b) m) e in (
+      eqb-true _ _ (and-left (eqb (qOf b) q) (eqb (nOf b) n && eqb (mOf b) m) e),
+      eqb-true _ _ (and-left (eqb (nOf b) n) (eqb (mOf b) m) rest),
+      eqb-true _ _ (and-right (eqb (nOf b) n) (eqb (mOf b) m) rest),
+    )
+
+pub sizes-has : (b : List ℕ) (q n m : ℕ) → qOf b ≡ q → nOf b ≡ n → mOf b ≡ m → hasSizes b q n m ≡ true
+unfolding hasSizes
+sizes-has b q n m eq en em = rw (eq-eqb _ _ eq, eq-eqb _ _ en, eq-eqb _ _ em)
 
 -- ---- not refused is well-formed
 

@@ -50,6 +50,10 @@ systemRefusal b =
     unless (eqb (length b) (systemLength (nOf b) (mOf b))) 2 orElse
     unless (allBelow (qOf b) (drop 3 b)) 3
 
+-- the system has this q, n and m; 7: "q, n or m of the system differ from the session's or record's"
+unfoldable pub hasSizes : List ℕ → ℕ → ℕ → ℕ → Bool
+hasSizes b q n m = eqb (qOf b) q && (eqb (nOf b) n && eqb (mOf b) m)
+
 -- "A record or a system is well-formed when it is laid out as here, every field, element and challenge among its values."
 pub record WellFormedSystem (b : List ℕ) : Type 0 where
   pub q : ℕ

@@ -1,11 +1,12 @@
 // The layout of a system's bytes and what is refused of them.
 use field::all_below;
 use field::is_field;
+use slices::byte_at;
 ghost use mathlib.Core.Path.{_≡_};
 ghost use Prim.Native.Nat.{_+_, _≤_};
 ghost use lib.ListN.{length, take, drop};
 ghost use Rattle.field.specs.Vector.{allBelow};
-ghost use Rattle.system.specs.System.{qOf, width as widthOf, systemLength, isSize, areSizes, systemRefusal};
+ghost use Rattle.system.specs.System.{qOf, width as widthOf, systemLength, isSize, areSizes, hasSizes, systemRefusal};
 
 // The bytes of one polynomial in n unknowns.
 pub fn width(n: u8) -> usize
@@ -64,4 +65,19 @@ pub fn check(system: &[u8]) -> u8
         return 3;
     }
     0
+}
+
+// Whether the system has this q, n and m.
+pub fn has_sizes(system: &[u8], q: u8, n: u8, m: u8) -> bool
+    ensures { λ r. ⌜ r ≡ hasSizes (now (system .entry)) q n m ⌝ }
+{
+    if byte_at(system, 0) == q {
+        if byte_at(system, 1) == n {
+            byte_at(system, 2) == m
+        } else {
+            false
+        }
+    } else {
+        false
+    }
 }

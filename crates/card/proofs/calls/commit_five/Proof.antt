@@ -1,0 +1,23 @@
+-- The callees' answers, put together. Assumes nothing.
+use Rattle.slices.specs.Slices.{zeros}
+use Rattle.exchange.specs.Card.{fiveCommitted}
+use borrow.Author.Needs.{needs}
+use Rattle.card.proofs.calls.commit_five.Statement.{statement}
+use Rattle.card.proofs.calls.commit_five.Tie as tie
+
+pub commit-five-spec : {M : Type 1} → statement M
+unfolding fiveCommitted zeros
+commit-five-spec =
+    tie.close
+    (tie.spec
+    (λ c κs. search needs)
+    (λ c κs. search needs)
+    (λ c κs. search needs)
+    (λ c κs. search needs)
+    (λ c κs. c .before .before .before .before .before .before .before .before .before .before .before .before .before .pre .1)
+    (λ c κs. search needs)
+    (λ c. search needs)
+    (λ c. (
+      simp (c .card-with .ensures, c .before .before .before .before .before .before .before .before .before .before .before .read-lent .ensures, c .before .before .before .before .before .before .before .before .before .before .before .before .byte-at2 .ensures, c .before .before .before .before .before .before .before .before .before .before .before .before .before .byte-at .ensures),
+      simp (c .before .before .before .write-two-commitments .ensures, c .before .before .before .before .before .commitments-five .ensures, c .before .before .before .before .before .before .before .before .before .before .before .read-lent .ensures, c .before .before .before .before .before .before .before .before .before .before .before .before .byte-at2 .ensures, c .before .before .before .before .before .before .before .before .before .before .before .before .before .byte-at .ensures),
+    )))

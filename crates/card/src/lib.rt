@@ -1,0 +1,15 @@
+// The card's session: open, then in each round commit, in scheme 5 the reply to α, and the reply.
+//
+// Each call takes the session by value and hands it back with 0, or with the number of the refusal; then the session and the
+// outputs are what they were. The answers' order is document 01's: 11, 10; the system's, 7; 1, 2, 3, 4, 5.
+mod calls;
+mod opening;
+mod session;
+
+pub use calls::answer_alpha;
+pub use calls::commit;
+pub use calls::reply;
+pub use opening::open;
+pub use session::Card;
+pub use session::CardAnswer;
+pub use session::CardPhase;

@@ -1,0 +1,217 @@
+-- Honest rounds at their bytes, for every system that is not refused: what the card sends is accepted, and has its lengths and elements. Assumes nothing.
+use Prim.Native.Nat.{ℕ, _+_, _≤_, _<_}
+use mathlib.Core.Path.{_≡_, refl, ap₂, _∙_}
+use mathlib.Core.Bool.{Bool, true, false, cond}
+use mathlib.Core.List.{List, _∷_}
+use native.Mathlib.Nat.{lt-of-not-le}
+use native.Mathlib.Decide.{decLe}
+use native.Mathlib.Omega.{arith}
+use lib.Dec.{eqb}
+use lib.ListN.{length, take, List·getD-eq-default}
+use lib.Seq.{getD-take}
+use Rattle.slices.specs.Slices.{_!_, tabulate}
+use Rattle.field.specs.Vector.{vector, slotV, allBelow}
+use Rattle.field.proofs.Modulus.{size-of}
+use Rattle.field.proofs.Fields.{field}
+use Rattle.sha256.proofs.DigestBytes.{length-sha256}
+use Rattle.commitment.specs.Commitment.{Com}
+use Rattle.system.specs.System.{qOf, nOf, mOf, opsOf, systemRefusal, F}
+use Rattle.system.proofs.SystemLayout.{accepted, all-below-at}
+use Rattle.protocol.specs.Protocols as P
+use Rattle.protocol.specs.Protocols.{AreElements, cardFive, t1By, e1By}
+use Rattle.protocol.specs.Rounds.{mapOf, IsX, IsY}
+use Rattle.protocol.proofs.SystemMap.{is-vector, vectors}
+use Rattle.protocol.proofs.Rounds.{elements-three, elements-five}
+use Rattle.round.specs.declared.pieces.Rhos.{Rhos}
+use Rattle.round.specs.declared.pieces.Commitments.{Commitments}
+use Rattle.round.specs.declared.pieces.Middle.{Middle}
+use Rattle.round.specs.declared.pieces.ReplyThree.{ReplyThree}
+use Rattle.round.specs.declared.pieces.ReplyFive.{ReplyFive}
+use Rattle.round.specs.ThreePass.{commitmentsThree, replyThree, acceptsThree}
+use Rattle.round.specs.FivePass.{commitmentsFive, replyFive}
+use Rattle.round.proofs.Acceptance.{accepted-three, accepted-five}
+use Rattle.exchange.specs.Messages.{lentIn, accepts}
+use Rattle.exchange.specs.Messages.{threeCommitments, fiveCommitments, replyThreeBytes, middleBytes, replyFiveBytes}
+use Rattle.exchange.specs.Card.{threeVectors, threeCommitted, threeReplied, fiveCommitted}
+use Rattle.exchange.proofs.ReadBack.{length-bytes, reads-vector, reads-tabulate, same-verdict, AreThree, AreTwo, IsReplyThree, IsReplyFive, IsMiddle}
+use Rattle.exchange.proofs.ReadBack.{length-three-commitments, length-five-commitments, three-commitments-back, five-commitments-back}
+use Rattle.exchange.proofs.ReadBack.{reply-three-length, reply-three-back, reply-three-below, reply-five-length, reply-five-back, reply-five-below}
+use Rattle.exchange.proofs.ReadBack.{middle-length, middle-back, middle-below}
+
+either : {A : Type 0} (P : A → Type 0) (c : Bool) (x y : A) → P x → P y → P (cond c x y)
+either P true x y hx hy = hx
+either P false x y hx hy = hy
+
+-- the first k of a list are elements; beyond the list's end there is the element 0
+front-below : (q k : ℕ) (l : List ℕ) → 0 < q → allBelow q (take k l) ≡ true → (i : ℕ) → i < k → l ! i < q
+front-below q k l pos below i h =
+    rw (← getD-take k l i 0 h)
+    (elim (decLe (length (take k l)) i) [
+      | yes beyond ↦ rw (List·getD-eq-default (take k l) 0 beyond) pos
+      | no within ↦ all-below-at q (take k l) below i (lt-of-not-le within)
+    ])
+
+-- the bytes of the lent vectors are elements
+abbrev pub Lends : List ℕ → List ℕ → Type 0
+Lends b lent = allBelow (qOf b) (take (nOf b + nOf b + mOf b) lent) ≡ true
+
+-- the lent vectors are vectors of n, n and m elements
+pub record LentIs (b lent : List ℕ) : Type 0 where
+  pub r0-is : IsX b (lentIn (nOf b) (mOf b) lent .r0)
+  pub t0-is : IsX b (lentIn (nOf b) (mOf b) lent .t0)
+  pub e0-is : IsY b (lentIn (nOf b) (mOf b) lent .e0)
+
+-- what a card sends in a round of five passes: t1 and e1 for α, and the reply
+abbrev pub fiveMiddle : List ℕ → List ℕ → ℕ → Middle
+fiveMiddle b lent α = let l = lentIn (nOf b) (mOf b) lent in record { t1 = t1By (mapOf b) α (l .r0) (l .t0); e1 = e1By (mapOf b) α (l .r0) (l .e0) }
+
+abbrev pub fiveReplied : List ℕ → List ℕ → List ℕ → ℕ → ReplyFive
+fiveReplied b s lent challenge = let l = lentIn (nOf b) (mOf b) lent in replyFive (qOf b) (nOf b) s (l .r0) (l .rhos) challenge
+
+module _ (b : List ℕ) (good : systemRefusal b ≡ 0) where
+  -- ---- what is lent, and the secret
+
+  size-is : opsOf b .size ≡ qOf b
+  size-is = size-of (qOf b) (accepted b good .is-field)
+
+  pub lent-is : (lent : List ℕ) → Lends b lent → LentIs b lent
+  unfolding lentIn slotV
+  lent-is lent h =
+      record {
+        r0-is = is-vector (opsOf b) (field (qOf b)) (nOf b) _ (λ i k. element (0 + i) (omega arith));
+        t0-is = is-vector (opsOf b) (field (qOf b)) (nOf b) _ (λ i k. element (nOf b + i) (omega arith));
+        e0-is = is-vector (opsOf b) (field (qOf b)) (mOf b) _ (λ i k. element (nOf b + nOf b + i) (omega arith));
+      }
+    where
+      element : (i : ℕ) → i < nOf b + nOf b + mOf b → lent ! i < opsOf b .size
+      element = front-below (opsOf b .size) (nOf b + nOf b + mOf b) lent (field (qOf b) .zero-below) (rw size-is h)
+
+  pub secret-is : (s : List ℕ) → length s ≡ nOf b → allBelow (qOf b) s ≡ true → IsX b (vector (length s) (λ i. s ! i))
+  secret-is s long below =
+      rw long (is-vector (opsOf b) (field (qOf b)) (nOf b) _ (λ i h. rw size-is (all-below-at (qOf b) s below i (rw long h))))
+
+  -- ---- what the card sends
+
+  replied-is : (w : P.Vectors (List ℕ) (List ℕ)) (ρ : Rhos) → AreElements (IsX b) (IsY b) w → length (ρ .rho0) ≡ 32 → length (ρ .rho1) ≡ 32 → length (ρ .rho2) ≡ 32 →
+      (challenge : ℕ) → IsReplyThree (opsOf b) (nOf b) (mOf b) (replyThree w ρ challenge)
+  unfolding replyThree
+  replied-is w ρ k long0 long1 long2 challenge =
+      either (IsReplyThree (opsOf b) (nOf b) (mOf b)) (eqb challenge 0) _ _
+      (record { x-is = k .r0-is; y-is = k .t1-is; z-is = k .e1-is; first-long = long1; second-long = long2 })
+      (either (IsReplyThree (opsOf b) (nOf b) (mOf b)) (eqb challenge 1) _ _
+      (record { x-is = k .r1-is; y-is = k .t1-is; z-is = k .e1-is; first-long = long0; second-long = long2 })
+      (record { x-is = k .r1-is; y-is = k .t0-is; z-is = k .e0-is; first-long = long0; second-long = long1 }))
+
+  -- t1 and e1 do not depend on the secret
+  module _ (lent : List ℕ) (h : Lends b lent) (α : ℕ) where
+    pub middle-is : IsMiddle (opsOf b) (nOf b) (mOf b) (fiveMiddle b lent α)
+    unfolding cardFive
+    middle-is =
+        let k = lent-is lent h in
+        let e = elements-five b good α lent _ _ _ (k .r0-is) (k .t0-is) (k .e0-is) in
+        record { t1-is = e .t1-is; e1-is = e .e1-is }
+
+    pub middle-long : length (middleBytes (nOf b) (mOf b) (fiveMiddle b lent α)) ≡ nOf b + mOf b
+    middle-long = let a = accepted b good in middle-length (opsOf b) (nOf b) (mOf b) _ (a .n-high) (a .m-high) middle-is
+
+    pub middle-elements : allBelow (qOf b) (middleBytes (nOf b) (mOf b) (fiveMiddle b lent α)) ≡ true
+    middle-elements = rw size-is at (middle-below (opsOf b) (nOf b) (mOf b) _ middle-is)
+
+  module _ (s lent : List ℕ) where
+    pub three-are : AreThree (threeCommitted b s lent)
+    unfolding threeCommitted commitmentsThree Com
+    three-are = record { c0-long = length-sha256 _; c1-long = length-sha256 _; c2-long = length-sha256 _ }
+
+    pub five-are : AreTwo (fiveCommitted b s lent)
+    unfolding fiveCommitted commitmentsFive Com
+    five-are = record { c0-long = length-sha256 _; c1-long = length-sha256 _; c2-zero = refl }
+
+    pub three-reply-is : Lends b lent → (challenge : ℕ) → IsReplyThree (opsOf b) (nOf b) (mOf b) (threeReplied b s lent challenge)
+    unfolding threeReplied threeVectors lentIn
+    three-reply-is h challenge =
+        let k = lent-is lent h in
+        replied-is _ (lentIn (nOf b) (mOf b) lent .rhos) (elements-three b good s _ _ _ (k .r0-is) (k .t0-is) (k .e0-is)) (length-bytes _ lent) (length-bytes _ lent) (length-bytes _ lent) challenge
+
+    pub five-reply-is : Lends b lent → (challenge : ℕ) → IsReplyFive (opsOf b) (nOf b) (fiveReplied b s lent challenge)
+    unfolding replyFive lentIn
+    five-reply-is h challenge =
+        either (IsReplyFive (opsOf b) (nOf b)) (eqb challenge 0) _ _
+        (record { x-is = lent-is lent h .r0-is; rho-long = length-bytes _ lent })
+        (record { x-is = vectors (opsOf b) (field (qOf b)) (nOf b) .sub-is s _; rho-long = length-bytes _ lent })
+
+    -- ---- is accepted
+
+    module _ (v : List ℕ) (key : F b s ≡ v) (hs : IsX b s) (h : Lends b lent) where
+      pub honest-three : (middle : List ℕ) (challenge : ℕ) → challenge ≤ 2 →
+          accepts b 3 v (threeCommitments (threeCommitted b s lent)) middle challenge (replyThreeBytes (nOf b) (mOf b) (threeReplied b s lent challenge)) ≡ true
+      unfolding accepts threeCommitted threeReplied threeVectors
+      honest-three middle challenge small =
+          let a = accepted b good in
+          let k = lent-is lent h in
+          let l = lentIn (nOf b) (mOf b) lent in
+          ap₂ (λ (c : Commitments) (r : ReplyThree). acceptsThree b v c challenge r) (three-commitments-back _ three-are)
+          (reply-three-back (opsOf b) (nOf b) (mOf b) _ (a .n-high) (a .m-high) (three-reply-is h challenge)) ∙
+          accepted-three b v (l .rhos) good s (l .r0) (l .t0) (l .e0) hs (k .r0-is) (k .t0-is) (k .e0-is) key challenge small
+
+      pub honest-five : (α challenge : ℕ) → challenge ≤ 1 →
+          accepts b 5 v (fiveCommitments (fiveCommitted b s lent)) (α ∷ middleBytes (nOf b) (mOf b) (fiveMiddle b lent α)) challenge
+          (replyFiveBytes (nOf b) (fiveReplied b s lent challenge)) ≡ true
+      unfolding accepts fiveCommitted
+      honest-five α challenge small =
+          let a = accepted b good in
+          let k = lent-is lent h in
+          let l = lentIn (nOf b) (mOf b) lent in
+          rw (five-commitments-back _ five-are, middle-back (opsOf b) (nOf b) (mOf b) α (fiveMiddle b lent α) (a .n-high) (a .m-high) (middle-is lent h α), reply-five-back (opsOf b) (nOf b) (fiveReplied b s lent challenge) (a .n-high) (five-reply-is h challenge))
+          (accepted-five b v (l .rhos) good α s (l .r0) (l .t0) (l .e0) hs (k .t0-is) (k .e0-is) key challenge small)
+
+      -- ---- and with the commitments, α, t1 and e1 as the carrier holds them, zero beyond their lengths
+
+      pub honest-three-held : (middle : List ℕ) (challenge : ℕ) → challenge ≤ 2 →
+          let c = threeCommitments (threeCommitted b s lent) in
+          accepts b 3 v (vector (length c) (λ i. c ! i)) middle challenge (replyThreeBytes (nOf b) (mOf b) (threeReplied b s lent challenge)) ≡ true
+      honest-three-held middle challenge small =
+          let c = threeCommitments (threeCommitted b s lent) in
+          let long : length c ≡ 96 = length-three-commitments _ three-are in
+          same-verdict b 3 v (vector (length c) (λ i. c ! i)) c middle middle challenge _ (reads-vector c (omega arith)) (λ i. refl) ∙
+          honest-three middle challenge small
+
+      pub honest-five-held : (α challenge : ℕ) → challenge ≤ 1 →
+          let c = fiveCommitments (fiveCommitted b s lent) in
+          let middle = α ∷ middleBytes (nOf b) (mOf b) (fiveMiddle b lent α) in
+          accepts b 5 v (vector (length c) (λ i. c ! i)) (tabulate 193 (λ i. middle ! i)) challenge (replyFiveBytes (nOf b) (fiveReplied b s lent challenge)) ≡ true
+      honest-five-held α challenge small =
+          let a = accepted b good in
+          let c = fiveCommitments (fiveCommitted b s lent) in
+          let middle = α ∷ middleBytes (nOf b) (mOf b) (fiveMiddle b lent α) in
+          let long : length c ≡ 64 = length-five-commitments _ five-are in
+          let short = middle-long lent h α in
+          same-verdict b 5 v (vector (length c) (λ i. c ! i)) c (tabulate 193 (λ i. middle ! i)) middle challenge _ (reads-vector c (omega arith))
+          (reads-tabulate 193 middle (omega (arith, a .n-high, a .m-high))) ∙
+          honest-five α challenge small
+
+    -- ---- has its lengths and elements
+
+    pub three-commitments-long : length (threeCommitments (threeCommitted b s lent)) ≡ 96
+    three-commitments-long = length-three-commitments _ three-are
+
+    pub five-commitments-long : length (fiveCommitments (fiveCommitted b s lent)) ≡ 64
+    five-commitments-long = length-five-commitments _ five-are
+
+    module _ (h : Lends b lent) where
+      pub three-reply-long : (challenge : ℕ) → length (replyThreeBytes (nOf b) (mOf b) (threeReplied b s lent challenge)) ≡ nOf b + nOf b + mOf b + 64
+      three-reply-long challenge =
+          let a = accepted b good in
+          reply-three-length (opsOf b) (nOf b) (mOf b) _ (a .n-high) (a .m-high) (three-reply-is h challenge)
+
+      pub three-reply-below : (challenge : ℕ) →
+          allBelow (qOf b) (take (nOf b + nOf b + mOf b) (replyThreeBytes (nOf b) (mOf b) (threeReplied b s lent challenge))) ≡ true
+      three-reply-below challenge =
+          let a = accepted b good in
+          rw size-is at (reply-three-below (opsOf b) (nOf b) (mOf b) _ (a .n-high) (a .m-high) (three-reply-is h challenge))
+
+      pub five-reply-long : (challenge : ℕ) → length (replyFiveBytes (nOf b) (fiveReplied b s lent challenge)) ≡ nOf b + 32
+      five-reply-long challenge = reply-five-length (opsOf b) (nOf b) _ (accepted b good .n-high) (five-reply-is h challenge)
+
+      pub five-reply-below : (challenge : ℕ) → allBelow (qOf b) (take (nOf b) (replyFiveBytes (nOf b) (fiveReplied b s lent challenge))) ≡ true
+      five-reply-below challenge =
+          rw size-is at (reply-five-below (opsOf b) (nOf b) _ (accepted b good .n-high) (five-reply-is h challenge))

@@ -1,0 +1,2 @@
+// Honest rounds at their bytes: what a card that holds the secret sends is accepted, has its lengths and holds elements. It has no
+// code: the theorems are in proofs/.

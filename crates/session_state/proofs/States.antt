@@ -1,0 +1,26 @@
+-- No refusal by the state exactly where the call is due. Assumes nothing.
+use Prim.Native.Nat.{ℕ, _+_, _<_, min}
+use mathlib.Core.Path.{_≡_, refl}
+use mathlib.Core.Bool.{Bool, true, false, cond}
+use native.Mathlib.Omega.{arith}
+use lib.Dec.{eqb}
+use borrow.Author.Tests.{ne-eqb, eq-eqb}
+use Rattle.refusal.specs.Refusal.{unless}
+use Rattle.refusal.proofs.Refusals.{equal-holds}
+use Rattle.session_state.specs.State.{stateRefusal, nextCount}
+
+pub state-due : (phase due : ℕ) → stateRefusal phase due ≡ 0 → phase ≡ due
+unfolding stateRefusal
+state-due phase due none = go (eqb phase 0) refl
+  where
+    go : (t : Bool) → eqb phase 0 ≡ t → phase ≡ due
+    go true e = absurd (omega (arith, simp e at none))
+    go false e = equal-holds phase due 10 tt (simp e at none)
+
+pub due-state : (phase due : ℕ) → phase ≡ due → (due ≡ 0 → ⊥) → stateRefusal phase due ≡ 0
+unfolding stateRefusal unless
+due-state phase due e some = simp (e, ne-eqb due 0 some, eq-eqb due due refl)
+
+pub count-below : (k n : ℕ) → k < n → n < 256 → nextCount k ≡ k + 1
+unfolding nextCount
+count-below k n h small = omega arith
