@@ -1,0 +1,5 @@
+pub mod CardSide
+pub mod CarrierSide
+pub mod Logs
+pub mod States
+pub mod Verdicts
