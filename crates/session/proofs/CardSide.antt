@@ -186,7 +186,7 @@ module _ (o : Opening) where
   answer-linked w α out l none asked =
       let f = committed (l .card-state) (alpha-taken (w .card) (o .system) α out none .due) in
       let stays : GivenStays o (w .given) (withMiddles (w .given) (w .cardRound) (sentMiddle (w .card) (o .system) α)) =
-        record { commitments-stay = λ k x e. e; middles-stay = put-stays (w .given .middles) (w .cardRound) _ (f .no-middles); replies-stay = λ k x e. e } in
+      record { commitments-stay = λ k x e. e; middles-stay = put-stays (w .given .middles) (w .cardRound) _ (f .no-middles); replies-stay = λ k x e. e } in
       moved w _ (w .cardRound) _ l stays (le-refl _) (answered-state (w .given) (w .asked) (w .card) (w .cardRound) α f asked) (kept-past w _ l stays)
 
   -- ---- reply
@@ -262,18 +262,18 @@ module _ (o : Opening) where
       let g = withReplies (w .given) r (sentReply (w .card) challenge) in
       let scheme : w .card .scheme ≡ o .scheme = ap (λ (c : Card). c .scheme) (f .is) ∙ scheme-kept Reply r (f .lent) in
       let stays : GivenStays o (w .given) g =
-        record { commitments-stay = λ k x e. e; middles-stay = λ k x e. e; replies-stay = put-stays (w .given .replies) r _ (f .no-replies) } in
+      record { commitments-stay = λ k x e. e; middles-stay = λ k x e. e; replies-stay = put-stays (w .given .replies) r _ (f .no-replies) } in
       let last : Past o g (w .asked) r =
-        record {
-          lent = f .lent;
-          challenge = challenge;
-          lends = f .lends;
-          commitments-given = f .commitments-given;
-          middle-given = St.middle-stays o r (f .lent) stays (asked-same o (w .asked)) (f .middle-given);
-          challenge-given = asked;
-          challenge-value = rw scheme at (k .value);
-          reply-given = put-there (w .given .replies) r _ ∙ ap some (ap (λ (c : Card). sentReply c challenge) (f .is) ∙ sent-reply-is r (f .lent) challenge);
-        } in
+      record {
+        lent = f .lent;
+        challenge = challenge;
+        lends = f .lends;
+        commitments-given = f .commitments-given;
+        middle-given = St.middle-stays o r (f .lent) stays (asked-same o (w .asked)) (f .middle-given);
+        challenge-given = asked;
+        challenge-value = rw scheme at (k .value);
+        reply-given = put-there (w .given .replies) r _ ∙ ap some (ap (λ (c : Card). sentReply c challenge) (f .is) ∙ sent-reply-is r (f .lent) challenge);
+      } in
       moved w _ (r + 1) g l stays (omega arith) (replied-state (w .given) (w .asked) (w .card) r challenge f small)
       (λ j h. ⊎-elim (λ (same : j ≡ r). rw same last) (λ (before : j < r). kept-past w g l stays j before) (eq-or-lt-of-le (omega arith)))
 

@@ -257,7 +257,7 @@ module _ (o : Opening) where
       let r = w .carrierRound in
       let f : ChallengeDue (w .given) (w .asked) (w .carrier) r = known-at _ _ _ _ (l .carrier-state) 4 (state-due _ 4 (first-zero _ _ none)) in
       let stays : AskedStays o (w .asked) (withChallenges (w .asked) r challenge) =
-        record { alphas-stay = λ k x e. e; challenges-stay = put-stays (w .asked .challenges) r challenge (f .no-challenges) } in
+      record { alphas-stay = λ k x e. e; challenges-stay = put-stays (w .asked .challenges) r challenge (f .no-challenges) } in
       moved w _ r _ l stays
       (St.reply-due (f .commitments) (f .middle) challenge (f .below) (f .commitments-given) (held-asked (w .given) (w .asked) r challenge (f .middle) (f .middle-held))
       (put-there (w .asked .challenges) r challenge)

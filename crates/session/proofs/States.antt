@@ -62,10 +62,10 @@ module _ (o : Opening) where
   pub data CardState (g : Given) (a : Asked) (card : Card) (r : ℕ) : Type 0 where
     is-fresh : r < o .rounds → card ≡ freshCard r → Clear (g .commitments) r → Clear (g .middles) r → Clear (g .replies) r → CardState g a card r
     is-committed : (lent : List ℕ) → r < o .rounds → (o .scheme ≡ 3 → ⊥) → Lends (o .system) lent → card ≡ heldCard AnswerAlpha r lent →
-      g .commitments r ≡ some (commitmentsOf lent) → Clear (g .commitments) (r + 1) → Clear (g .middles) r → Clear (g .replies) r → CardState g a card r
+        g .commitments r ≡ some (commitmentsOf lent) → Clear (g .commitments) (r + 1) → Clear (g .middles) r → Clear (g .replies) r → CardState g a card r
     is-ready : (lent : List ℕ) → r < o .rounds → Lends (o .system) lent → card ≡ heldCard Reply r lent →
-      g .commitments r ≡ some (commitmentsOf lent) → Clear (g .commitments) (r + 1) → MiddleGiven g a r lent → Clear (g .middles) (r + 1) →
-      Clear (g .replies) r → CardState g a card r
+        g .commitments r ≡ some (commitmentsOf lent) → Clear (g .commitments) (r + 1) → MiddleGiven g a r lent → Clear (g .middles) (r + 1) →
+        Clear (g .replies) r → CardState g a card r
     is-over : r ≡ o .rounds → card ≡ CardCalls.closedCard → Clear (g .replies) r → CardState g a card r
 
   -- a round that is over at the card
@@ -91,21 +91,21 @@ module _ (o : Opening) where
   pub data MiddleHeld (g : Given) (a : Asked) (r : ℕ) (held : List ℕ) : Type 0 where
     none-held : o .scheme ≡ 3 → MiddleHeld g a r held
     middle-held : (o .scheme ≡ 3 → ⊥) → (α : ℕ) (l : List ℕ) → a .alphas r ≡ some α → g .middles r ≡ some l → held ≡ CarrierCalls.heldMiddle α l →
-      MiddleHeld g a r held
+        MiddleHeld g a r held
 
   pub data CarrierState (g : Given) (a : Asked) (carrier : Carrier) (r : ℕ) : Type 0 where
     commitments-due : r < o .rounds → carrier ≡ carrierAt TakeCommitments r (zeros 96) (zeros 193) 0 → Clear (a .alphas) r → Clear (a .challenges) r →
-      CarrierState g a carrier r
+        CarrierState g a carrier r
     alpha-due : (c : List ℕ) → r < o .rounds → (o .scheme ≡ 3 → ⊥) → g .commitments r ≡ some c →
-      carrier ≡ carrierAt SetAlpha r (CarrierCalls.held c) (zeros 193) 0 → Clear (a .alphas) r → Clear (a .challenges) r → CarrierState g a carrier r
+        carrier ≡ carrierAt SetAlpha r (CarrierCalls.held c) (zeros 193) 0 → Clear (a .alphas) r → Clear (a .challenges) r → CarrierState g a carrier r
     middle-due : (c : List ℕ) (α : ℕ) → r < o .rounds → (o .scheme ≡ 3 → ⊥) → g .commitments r ≡ some c → a .alphas r ≡ some α →
-      carrier ≡ carrierAt TakeMiddle r (CarrierCalls.held c) (CarrierCalls.heldMiddle α []) 0 → Clear (a .alphas) (r + 1) → Clear (a .challenges) r →
-      CarrierState g a carrier r
+        carrier ≡ carrierAt TakeMiddle r (CarrierCalls.held c) (CarrierCalls.heldMiddle α []) 0 → Clear (a .alphas) (r + 1) → Clear (a .challenges) r →
+        CarrierState g a carrier r
     challenge-due : (c held : List ℕ) → r < o .rounds → g .commitments r ≡ some c → MiddleHeld g a r held →
-      carrier ≡ carrierAt SetChallenge r (CarrierCalls.held c) held 0 → Clear (a .alphas) (r + 1) → Clear (a .challenges) r → CarrierState g a carrier r
+        carrier ≡ carrierAt SetChallenge r (CarrierCalls.held c) held 0 → Clear (a .alphas) (r + 1) → Clear (a .challenges) r → CarrierState g a carrier r
     reply-due : (c held : List ℕ) (challenge : ℕ) → r < o .rounds → g .commitments r ≡ some c → MiddleHeld g a r held → a .challenges r ≡ some challenge →
-      carrier ≡ carrierAt TakeReply r (CarrierCalls.held c) held challenge → Clear (a .alphas) (r + 1) → Clear (a .challenges) (r + 1) →
-      CarrierState g a carrier r
+        carrier ≡ carrierAt TakeReply r (CarrierCalls.held c) held challenge → Clear (a .alphas) (r + 1) → Clear (a .challenges) (r + 1) →
+        CarrierState g a carrier r
     accepted : r ≡ o .rounds → carrier ≡ CarrierCalls.closedCarrier Accepted (o .rounds) → CarrierState g a carrier r
 
   -- ---- both ends
