@@ -3,6 +3,7 @@ use crate::session::Carrier;
 use crate::session::CarrierAnswer;
 use crate::session::CarrierPhase;
 use crate::session::Judged;
+use crate::session::answer;
 use crate::session::carrier_with;
 use crate::session::closed_carrier;
 use crate::session::held_middle;
@@ -35,16 +36,7 @@ pub fn take_commitments(c: Carrier, commitments: &[u8]) -> CarrierAnswer
     let phase = c.phase;
     let length = unless(commitments.len() == commitments_length(c.scheme), 2);
     let refused = first(state_refusal(phase_number(phase), 1), length);
-    if refused != 0 {
-        return CarrierAnswer {
-            refusal: refused,
-            carrier: c,
-        };
-    }
-    CarrierAnswer {
-        refusal: 0,
-        carrier: with_commitments(c, commitments),
-    }
+    answer(refused, c, with_commitments(c, commitments))
 }
 
 fn with_commitments(c: Carrier, commitments: &[u8]) -> Carrier
@@ -67,25 +59,10 @@ pub fn set_alpha(c: Carrier, alpha: u8) -> CarrierAnswer
         state_refusal(phase_number(phase), 2),
         unless(alpha < c.q, 3),
     );
-    if refused != 0 {
-        return CarrierAnswer {
-            refusal: refused,
-            carrier: c,
-        };
-    }
-    let commitments = c.commitments;
+    let sent = c.commitments;
     let held = held_middle(alpha, &[]);
-    CarrierAnswer {
-        refusal: 0,
-        carrier: carrier_with(
-            c,
-            CarrierPhase::TakeMiddle,
-            c.accepted,
-            commitments,
-            held,
-            0,
-        ),
-    }
+    let with_alpha = carrier_with(c, CarrierPhase::TakeMiddle, c.accepted, sent, held, 0);
+    answer(refused, c, with_alpha)
 }
 
 // Takes t1 and e1, one behind the other, in scheme 5.
@@ -98,25 +75,10 @@ pub fn take_middle(c: Carrier, middle: &[u8]) -> CarrierAnswer
         unless(all_below(c.q, middle), 3),
     );
     let refused = first(state_refusal(phase_number(phase), 3), form);
-    if refused != 0 {
-        return CarrierAnswer {
-            refusal: refused,
-            carrier: c,
-        };
-    }
-    let commitments = c.commitments;
+    let sent = c.commitments;
     let held = held_middle(c.middle[0], middle);
-    CarrierAnswer {
-        refusal: 0,
-        carrier: carrier_with(
-            c,
-            CarrierPhase::SetChallenge,
-            c.accepted,
-            commitments,
-            held,
-            0,
-        ),
-    }
+    let with_middle = carrier_with(c, CarrierPhase::SetChallenge, c.accepted, sent, held, 0);
+    answer(refused, c, with_middle)
 }
 
 // Sets the challenge.
@@ -128,25 +90,17 @@ pub fn set_challenge(c: Carrier, challenge: u8) -> CarrierAnswer
         state_refusal(phase_number(phase), 4),
         unless(challenge < challenges(c.scheme), 4),
     );
-    if refused != 0 {
-        return CarrierAnswer {
-            refusal: refused,
-            carrier: c,
-        };
-    }
-    let commitments = c.commitments;
-    let middle = c.middle;
-    CarrierAnswer {
-        refusal: 0,
-        carrier: carrier_with(
-            c,
-            CarrierPhase::TakeReply,
-            c.accepted,
-            commitments,
-            middle,
-            challenge,
-        ),
-    }
+    let sent = c.commitments;
+    let held = c.middle;
+    let with_challenge = carrier_with(
+        c,
+        CarrierPhase::TakeReply,
+        c.accepted,
+        sent,
+        held,
+        challenge,
+    );
+    answer(refused, c, with_challenge)
 }
 
 fn reply_refusal<'a>(c: Carrier, system: &'a [u8], reply: &'a [u8]) -> u8
@@ -167,8 +121,8 @@ fn reply_refusal<'a>(c: Carrier, system: &'a [u8], reply: &'a [u8]) -> u8
 fn judged_carrier(c: Carrier, accepted: bool) -> Carrier
     ensures { λ r. ⌜ r ≡ judgedCarrier c accepted ⌝ }
 {
+    let next = next_count(c.accepted);
     if accepted {
-        let next = next_count(c.accepted);
         if next < c.rounds {
             carrier_with(c, CarrierPhase::TakeCommitments, next, [0; 96], [0; 193], 0)
         } else {

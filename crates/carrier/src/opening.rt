@@ -2,6 +2,7 @@
 use crate::session::Carrier;
 use crate::session::CarrierAnswer;
 use crate::session::CarrierPhase;
+use crate::session::answer;
 use crate::session::closed_carrier;
 use field::all_below;
 use field::from_slice;
@@ -53,14 +54,7 @@ pub fn open<'a>(system: &'a [u8], scheme: u8, rounds: u8, v: &'a [u8]) -> Carrie
         × (r .carrier ≡ kept (r .refusal) (closedCarrier NoVerdict 0) (openedCarrier (now (system .entry)) scheme rounds (now (v .entry)))) ⌝ }
 {
     let refused = open_refusal(system, scheme, rounds, v);
-    if refused != 0 {
-        return CarrierAnswer {
-            refusal: refused,
-            carrier: closed_carrier(Verdict::None, 0),
-        };
-    }
-    CarrierAnswer {
-        refusal: 0,
-        carrier: opened_carrier(system, scheme, rounds, v),
-    }
+    let closed = closed_carrier(Verdict::None, 0);
+    let opened = opened_carrier(system, scheme, rounds, v);
+    answer(refused, closed, opened)
 }

@@ -2,6 +2,7 @@
 use session_state::Verdict;
 use slices::byte_at;
 ghost use mathlib.Core.Path.{_≡_};
+ghost use Rattle.refusal.specs.Refusal.{kept};
 ghost use Rattle.carrier.specs.Carrier.{phaseNumber, closedCarrier, carrierWith, heldMiddle};
 
 // The next call that is due.
@@ -41,6 +42,23 @@ pub struct Judged {
     pub refusal: u8,
     pub accepted: bool,
     pub carrier: Carrier,
+}
+
+// What is refused hands back the old session.
+pub fn answer(refused: u8, old: Carrier, new: Carrier) -> CarrierAnswer
+    ensures { λ r. ⌜ (r .refusal ≡ refused) × (r .carrier ≡ kept (r .refusal) old new) ⌝ }
+{
+    if refused == 0 {
+        CarrierAnswer {
+            refusal: refused,
+            carrier: new,
+        }
+    } else {
+        CarrierAnswer {
+            refusal: refused,
+            carrier: old,
+        }
+    }
 }
 
 // The due call by number, 0 for a closed session.

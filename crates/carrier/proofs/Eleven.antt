@@ -1,0 +1,70 @@
+-- A call answers 11 exactly where its session is closed. Assumes nothing.
+use Prim.Native.Nat.{ℕ, _≤_}
+use mathlib.Core.Path.{_≡_, refl}
+use mathlib.Core.Bool.{Bool, true, false, cond}
+use mathlib.Core.List.{List}
+use native.Mathlib.Omega.{arith}
+use lib.Dec.{eqb}
+use borrow.Author.Tests.{ne-eqb}
+use Rattle.refusal.specs.Refusal.{unless, _orElse_}
+use Rattle.system.specs.System.{systemRefusal}
+use Rattle.session_state.specs.State.{stateRefusal}
+use Rattle.carrier.specs.declared.session.Carrier.{Carrier}
+use Rattle.carrier.specs.Carrier.{phaseNumber, commitmentsRefusal, alphaRefusal, middleRefusal, challengeRefusal, replyRefusal}
+
+-- ---- the largest number in a chain of refusals
+
+unless-most : (test : Bool) (k most : ℕ) → k ≤ most → unless test k ≤ most
+unfolding unless
+unless-most true k most h = omega arith
+unless-most false k most h = h
+
+orElse-most : (a b most : ℕ) → a ≤ most → b ≤ most → (a orElse b) ≤ most
+unfolding _orElse_
+orElse-most a b most ha hb = go (eqb a 0)
+  where
+    go : (none : Bool) → cond none b a ≤ most
+    go true = hb
+    go false = ha
+
+-- ---- "11 a closed session": where no later refusal has that number
+
+eleven : (phase due later : ℕ) → later ≤ 9 → eqb (stateRefusal phase due orElse later) 11 ≡ eqb phase 0
+unfolding stateRefusal unless _orElse_
+eleven phase due later h = go (eqb phase 0) (eqb phase due)
+  where
+    go : (closed isDue : Bool) → eqb (cond (eqb (cond closed 11 (cond isDue 0 10)) 0) later (cond closed 11 (cond isDue 0 10))) 11 ≡ closed
+    go true isDue = refl
+    go false true = ne-eqb later 11 (λ e. omega arith)
+    go false false = refl
+
+-- ---- each call
+
+pub commitments-eleven : (c : Carrier) (commitments : List ℕ) → eqb (commitmentsRefusal c commitments) 11 ≡ eqb (phaseNumber (c .phase)) 0
+unfolding commitmentsRefusal
+commitments-eleven c commitments = eleven _ 1 _ (unless-most _ 2 9 (omega arith))
+
+pub alpha-eleven : (c : Carrier) (α : ℕ) → eqb (alphaRefusal c α) 11 ≡ eqb (phaseNumber (c .phase)) 0
+unfolding alphaRefusal
+alpha-eleven c α = eleven _ 2 _ (unless-most _ 3 9 (omega arith))
+
+pub middle-eleven : (c : Carrier) (middle : List ℕ) → eqb (middleRefusal c middle) 11 ≡ eqb (phaseNumber (c .phase)) 0
+unfolding middleRefusal
+middle-eleven c middle = eleven _ 3 _ (orElse-most _ _ 9 (unless-most _ 2 9 (omega arith)) (unless-most _ 3 9 (omega arith)))
+
+pub challenge-eleven : (c : Carrier) (challenge : ℕ) → eqb (challengeRefusal c challenge) 11 ≡ eqb (phaseNumber (c .phase)) 0
+unfolding challengeRefusal
+challenge-eleven c challenge = eleven _ 4 _ (unless-most _ 4 9 (omega arith))
+
+system-most : (b : List ℕ) → systemRefusal b ≤ 9
+unfolding systemRefusal
+system-most b =
+    orElse-most _ _ 9 (unless-most _ 2 9 (omega arith))
+    (orElse-most _ _ 9 (unless-most _ 1 9 (omega arith)) (orElse-most _ _ 9 (unless-most _ 2 9 (omega arith)) (unless-most _ 3 9 (omega arith))))
+
+pub reply-eleven : (c : Carrier) (b reply : List ℕ) → eqb (replyRefusal c b reply) 11 ≡ eqb (phaseNumber (c .phase)) 0
+unfolding replyRefusal
+reply-eleven c b reply =
+    eleven _ 5 _
+    (orElse-most _ _ 9 (system-most b)
+    (orElse-most _ _ 9 (unless-most _ 7 9 (omega arith)) (orElse-most _ _ 9 (unless-most _ 2 9 (omega arith)) (unless-most _ 3 9 (omega arith)))))

@@ -1,0 +1,2 @@
+pub mod Eleven
+pub mod Phases

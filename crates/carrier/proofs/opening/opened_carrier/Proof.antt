@@ -1,0 +1,17 @@
+-- The callees' answers, put together. Assumes nothing.
+use Rattle.slices.specs.Slices.{zeros}
+use Rattle.carrier.specs.Carrier.{openedCarrier}
+use borrow.Author.Needs.{needs}
+use Rattle.carrier.proofs.opening.opened_carrier.Statement.{statement}
+use Rattle.carrier.proofs.opening.opened_carrier.Tie as tie
+
+pub opened-carrier-spec : {M : Type 1} → statement M
+unfolding openedCarrier zeros
+opened-carrier-spec =
+    tie.close
+    (tie.spec
+    (λ c κs. search needs)
+    (λ c κs. search needs)
+    (λ c κs. search needs)
+    (λ c κs. search needs)
+    (λ c. simp (c .from-slice .ensures, c .before .byte-at3 .ensures, c .before .before .byte-at2 .ensures, c .before .before .before .byte-at .ensures)))
