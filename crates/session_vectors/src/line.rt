@@ -46,43 +46,55 @@ fn say_byte(byte: u8) {
 pub fn end_line(card: Card, carrier: Carrier) {
     let card_phase = card.phase;
     let carrier_phase = carrier.phase;
+    let of_card = [card.scheme, card.q, card.n, card.m, card.rounds];
+    let of_carrier = [carrier.scheme, carrier.q, carrier.n, carrier.m, carrier.rounds];
     say(b" ");
-    say_card_phase(card_phase);
+    let card_closed = say_card_phase(card_phase);
     io::print_decimal(STDOUT_FILENO, card.round as u64);
+    say_if(card_closed && any(&of_card), b"n");
     say_secret(card);
     say(b" ");
-    say_carrier_phase(carrier_phase);
+    let carrier_closed = say_carrier_phase(carrier_phase);
     io::print_decimal(STDOUT_FILENO, carrier.accepted as u64);
+    say_if(carrier_closed && any(&of_carrier), b"n");
     say_messages(carrier);
     say(b"\n");
 }
 
-fn say_card_phase(phase: CardPhase) {
+// Answers whether the session is closed.
+fn say_card_phase(phase: CardPhase) -> bool {
     match phase {
-        CardPhase::Commit => say(b"commit"),
-        CardPhase::AnswerAlpha => say(b"answer"),
-        CardPhase::Reply => say(b"reply"),
-        CardPhase::Closed(verdict) => say_verdict(verdict),
+        CardPhase::Commit => open(b"commit"),
+        CardPhase::AnswerAlpha => open(b"answer"),
+        CardPhase::Reply => open(b"reply"),
+        CardPhase::Closed(verdict) => closed(verdict),
     }
 }
 
-fn say_carrier_phase(phase: CarrierPhase) {
+// The same.
+fn say_carrier_phase(phase: CarrierPhase) -> bool {
     match phase {
-        CarrierPhase::TakeCommitments => say(b"take"),
-        CarrierPhase::SetAlpha => say(b"alpha"),
-        CarrierPhase::TakeMiddle => say(b"middle"),
-        CarrierPhase::SetChallenge => say(b"ask"),
-        CarrierPhase::TakeReply => say(b"judge"),
-        CarrierPhase::Closed(verdict) => say_verdict(verdict),
+        CarrierPhase::TakeCommitments => open(b"take"),
+        CarrierPhase::SetAlpha => open(b"alpha"),
+        CarrierPhase::TakeMiddle => open(b"middle"),
+        CarrierPhase::SetChallenge => open(b"ask"),
+        CarrierPhase::TakeReply => open(b"judge"),
+        CarrierPhase::Closed(verdict) => closed(verdict),
     }
 }
 
-fn say_verdict(verdict: Verdict) {
+fn open(due: &[u8]) -> bool {
+    say(due);
+    false
+}
+
+fn closed(verdict: Verdict) -> bool {
     match verdict {
         Verdict::None => say(b"none"),
         Verdict::Accepted => say(b"accepted"),
         Verdict::Rejected => say(b"rejected"),
     }
+    true
 }
 
 // s for the secret, r for what is held of the round.

@@ -244,6 +244,38 @@ impl Play<'_> {
         }
     }
 
+    /// A round of the card alone.
+    fn card_round(&mut self, challenge: u8) -> Told {
+        let round = Round {
+            challenge,
+            ..self.round()
+        };
+        let mut sent = self.committed(&round);
+        if self.scheme == Scheme::FivePass {
+            sent.middle = self.call(&round, self.answer(&round));
+        }
+        sent.reply = self.call(&round, self.reply(&round));
+        Told {
+            sent,
+            alpha: round.alpha,
+            challenge,
+        }
+    }
+
+    /// A round of the carrier alone.
+    fn carrier_round(&mut self, told: Told) {
+        let sent = told.sent;
+        let script = &mut self.script;
+        script.call(SessionCall::TakeCommitments(sent.commitments));
+        if self.scheme == Scheme::FivePass {
+            script.call(SessionCall::SetAlpha(told.alpha));
+            script.call(SessionCall::TakeMiddle(sent.middle));
+        }
+        script.call(SessionCall::SetChallenge(told.challenge));
+        let judge = self.take_reply(&sent.reply);
+        self.script.call(judge);
+    }
+
     /// Every call once, whether due or not.
     fn try_every_call(&mut self) {
         let round = self.round();
@@ -261,6 +293,7 @@ pub fn file() -> ProgramFile {
         strewn(&mut script, scheme);
         out_of_order(&mut script, scheme);
         forged(&mut script, scheme);
+        altered(&mut script, scheme);
         refused_openings(&mut script, scheme);
         longest(&mut script, scheme);
     }
@@ -306,7 +339,7 @@ fn honest(script: &mut Script, scheme: Scheme) {
 
 /// Honest sessions with refused calls strewn in: in the first, all faulty ones in each place.
 fn strewn(script: &mut Script, scheme: Scheme) {
-    for (seed, (q, n, m)) in (0x5e55_0100..).zip([(7, 2, 2), (251, 1, 1), (2, 2, 1)]) {
+    for (seed, (q, n, m)) in (0x5e55_0100..).zip([(7, 2, 2), (251, 1, 1)]) {
         let mut play = Play::new(script, seed, scheme, Shape::new(q, n, m), 2);
         play.open();
         play.strewn = Strewn::Faulty;
@@ -368,6 +401,56 @@ fn forged(script: &mut Script, scheme: Scheme) {
         }
     }
     script.end_group(&named(scheme, "forged replies"));
+}
+
+/// A round's messages as the carrier gets them, and what it says itself.
+struct Told {
+    sent: Sent,
+    alpha: u8,
+    challenge: u8,
+}
+
+/// A change of what the carrier is told, given q and the number of challenges.
+type Alteration = fn(&mut Told, u8, u8);
+
+/// Nothing; the first, the second and the last commitment; the challenge.
+const ALTERATIONS: [Alteration; 5] = [
+    |_, _, _| (),
+    |told, _, _| told.sent.commitments[0] ^= 1,
+    |told, _, _| told.sent.commitments[63] ^= 128,
+    |told, _, _| *told.sent.commitments.last_mut().expect("commitments") ^= 16,
+    |told, _, count| told.challenge = (told.challenge + 1) % count,
+];
+
+/// α; an element of t1; one of e1.
+const FIVE_PASS_ALTERATIONS: [Alteration; 3] = [
+    |told, q, _| told.alpha = (told.alpha + 1) % q,
+    |told, q, _| told.sent.middle[0] = (told.sent.middle[0] + 1) % q,
+    |told, q, _| {
+        let last = told.sent.middle.last_mut().expect("e1");
+        *last = (*last + 1) % q;
+    },
+];
+
+/// Rounds that the card ends before the carrier begins, with one message altered on the way. They
+/// are accepted where the check does not read what is altered.
+fn altered(script: &mut Script, scheme: Scheme) {
+    let alterations = match scheme {
+        Scheme::ThreePass => ALTERATIONS.to_vec(),
+        Scheme::FivePass => [&ALTERATIONS[..], &FIVE_PASS_ALTERATIONS].concat(),
+    };
+    let mut seed = 0x5e55_0700;
+    for challenge in scheme.challenges() {
+        for alteration in &alterations {
+            seed += 1;
+            let mut play = Play::new(script, seed, scheme, Shape::new(31, 2, 3), 2);
+            play.open();
+            let mut told = play.card_round(challenge);
+            alteration(&mut told, 31, scheme.commitments());
+            play.carrier_round(told);
+        }
+    }
+    script.end_group(&named(scheme, "altered messages"));
 }
 
 /// Openings refused with each number, also those of several faults, and calls after them.

@@ -209,5 +209,5 @@ fn sessions_of_255_rounds_are_accepted() {
         text.matches("judge 0 accept none0 accepted255\n").count(),
         2
     );
-    assert!(text.len() < 220_000);
+    assert!(text.len() < 210_000);
 }
