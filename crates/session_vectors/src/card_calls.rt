@@ -25,7 +25,13 @@ pub fn card_call(file: &[u8], at: usize, buffer: &mut [u8], card: Card) -> CardS
 }
 
 // The calls that begin with a system.
-fn system_call<'a>(file: &'a [u8], head: Head, at: usize, system: &'a [u8], card: Card) -> CardStep {
+fn system_call<'a>(
+    file: &'a [u8],
+    head: Head,
+    at: usize,
+    system: &'a [u8],
+    card: Card,
+) -> CardStep {
     let kind = head.kind;
     match kind {
         12 => open_call(file, head, at, system, card),
@@ -90,12 +96,7 @@ fn commit_call<'a>(file: &'a [u8], head: Head, at: usize, system: &'a [u8], old:
         return no_call(old);
     }
     let mut out = [head.fill; 512];
-    let answer = commit(
-        old,
-        system,
-        &lent_bytes[..lent_length],
-        &mut out[..length],
-    );
+    let answer = commit(old, system, &lent_bytes[..lent_length], &mut out[..length]);
     put_out(head, expected, answer, out)
 }
 

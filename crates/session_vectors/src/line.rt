@@ -47,7 +47,13 @@ pub fn end_line(card: Card, carrier: Carrier) {
     let card_phase = card.phase;
     let carrier_phase = carrier.phase;
     let of_card = [card.scheme, card.q, card.n, card.m, card.rounds];
-    let of_carrier = [carrier.scheme, carrier.q, carrier.n, carrier.m, carrier.rounds];
+    let of_carrier = [
+        carrier.scheme,
+        carrier.q,
+        carrier.n,
+        carrier.m,
+        carrier.rounds,
+    ];
     say(b" ");
     let card_closed = say_card_phase(card_phase);
     io::print_decimal(STDOUT_FILENO, card.round as u64);
