@@ -16,6 +16,7 @@ pub mod refusal;
 pub mod report;
 pub mod rounds;
 pub mod scheme;
+pub mod session;
 pub mod sha256;
 pub mod simulator;
 pub mod system;

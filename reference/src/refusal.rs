@@ -1,4 +1,4 @@
-//! Document 01, "Refused because of the input": the refusals by their numbers.
+//! Document 01, "Refused because of the input" and "of the state": the refusals by their numbers.
 
 /// Why a call is refused. Later parts add their own.
 #[derive(Clone, Copy, Debug, PartialEq, Eq)]
@@ -11,10 +11,16 @@ pub enum Refusal {
     Element,
     /// 4: a challenge is outside its values.
     Challenge,
+    /// 5: F(s) is not v.
+    Key,
     /// 6: a record's size, edition, table or length is wrong.
     Record,
-    /// 7: q, n or m of system and record differ.
+    /// 7: q, n or m of the system differ from the session's or the record's.
     Mismatch,
+    /// 10: the call is not the one due.
+    NotDue,
+    /// 11: the session is closed.
+    Closed,
 }
 
 impl Refusal {
@@ -24,8 +30,11 @@ impl Refusal {
             Refusal::Length => 2,
             Refusal::Element => 3,
             Refusal::Challenge => 4,
+            Refusal::Key => 5,
             Refusal::Record => 6,
             Refusal::Mismatch => 7,
+            Refusal::NotDue => 10,
+            Refusal::Closed => 11,
         }
     }
 }

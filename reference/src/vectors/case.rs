@@ -240,12 +240,17 @@ fn written(out: Vec<u8>) -> Answer {
 pub fn encode(groups: &[Group]) -> Vec<u8> {
     let mut file = Vec::new();
     for group in groups {
-        file.push(u8::try_from(group.name.len()).expect("a short name"));
-        file.extend(group.name.as_bytes());
-        encode_number(&mut file, group.cases.len());
+        encode_head(&mut file, &group.name, group.cases.len());
         for case in &group.cases {
             case.encode(&mut file);
         }
     }
     file
+}
+
+/// Appends what stands before a group's cases.
+pub fn encode_head(file: &mut Vec<u8>, name: &str, cases: usize) {
+    file.push(u8::try_from(name.len()).expect("a short name"));
+    file.extend(name.as_bytes());
+    encode_number(file, cases);
 }

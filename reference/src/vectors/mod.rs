@@ -2,8 +2,10 @@
 //!
 //! The format is documented in README.md. Expected answers are those of `entries` and `rounds`.
 
+pub mod calls;
 pub mod case;
 pub mod exchange;
+pub mod faults;
 pub mod forged;
 pub mod hash;
 pub mod honest;
@@ -13,6 +15,7 @@ pub mod piece;
 pub mod reading;
 pub mod reporting;
 pub mod session;
+pub mod sessions;
 pub mod simulation;
 pub mod system_check;
 pub mod writing;
@@ -36,6 +39,7 @@ pub fn files() -> Vec<ProgramFile> {
         file("simulator_vectors", &simulation::groups()),
         file("record_vectors", &record_groups()),
         file("report_vectors", &reporting::groups()),
+        sessions::file(),
     ]
 }
 

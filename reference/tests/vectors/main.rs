@@ -5,4 +5,5 @@ mod answers;
 mod judges;
 mod records;
 mod reports;
+mod sessions;
 mod stored;

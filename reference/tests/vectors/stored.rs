@@ -97,7 +97,12 @@ pub struct Case {
 
 /// How many inputs and outputs a kind has.
 fn counts(kind: u8) -> (usize, usize) {
-    let inputs = [1, 2, 3, 1, 4, 3, 5, 7, 5, 1, 4, 1][usize::from(kind)];
-    let outputs = [0, 1, 1, 1, 1, 1, 1, 0, 2, 1, 1, 1][usize::from(kind)];
-    (inputs, outputs)
+    const INPUTS: [usize; 22] = [
+        1, 2, 3, 1, 4, 3, 5, 7, 5, 1, 4, 1, 5, 2, 2, 1, 4, 1, 1, 1, 1, 2,
+    ];
+    const OUTPUTS: [usize; 22] = [
+        0, 1, 1, 1, 1, 1, 1, 0, 2, 1, 1, 1, 0, 1, 1, 1, 0, 0, 0, 0, 0, 1,
+    ];
+    let kind = usize::from(kind);
+    (INPUTS[kind], OUTPUTS[kind])
 }

@@ -22,4 +22,4 @@ report-refusal-spec =
     (λ c κs. search needs)
     (λ c κs. search needs)
     (λ c κs. search needs)
-    (λ c. simp (orElse-assoc, c .first3 .ensures, c .before .first2 .ensures, c .before .before .unless2 .ensures, c .before .before .before .fits2 .ensures, c .before .before .before .before .header-of .ensures, c .before .before .before .before .before .refusal-of .ensures, c .before .before .before .before .before .before .read .ensures .1, c .before .before .before .before .before .before .before .first .ensures, c .before .before .before .before .before .before .before .before .check .ensures, c .before .before .before .before .before .before .before .before .before .unless .ensures, c .before .before .before .before .before .before .before .before .before .before .record-part .ensures, c .before .before .before .before .before .before .before .before .before .before .before .system-part .ensures)))
+    (λ c. simp (orElse-assoc, c .first3 .ensures, c .before .first2 .ensures, c .before .before .unless2 .ensures, c .before .before .before .has-sizes .ensures, c .before .before .before .before .refusal-of .ensures, c .before .before .before .before .before .read .ensures .1, c .before .before .before .before .before .before .header-of .ensures, c .before .before .before .before .before .before .before .first .ensures, c .before .before .before .before .before .before .before .before .check .ensures, c .before .before .before .before .before .before .before .before .before .unless .ensures, c .before .before .before .before .before .before .before .before .before .before .record-part .ensures, c .before .before .before .before .before .before .before .before .before .before .before .system-part .ensures)))

@@ -1,0 +1,310 @@
+-- The card's calls along an honest session: each leaves the two ends linked, and none is refused when it is due. Assumes nothing.
+use Prim.Native.Nat.{ℕ, _+_, _≤_, _<_}
+use mathlib.Core.Path.{_≡_, refl, sym, ap, ap₂, _∙_}
+use mathlib.Core.Bool.{Bool, true, false, cond}
+use mathlib.Core.List.{List}
+use mathlib.Core.Logic.{⊎-elim}
+use mathlib.Core.Option.{some}
+use native.Mathlib.Nat.{eq-or-lt-of-le, le-refl, lt-of-not-le}
+use native.Mathlib.Decide.{decLe}
+use native.Mathlib.Omega.{arith}
+use lib.Dec.{eqb, ltb}
+use lib.ListN.{length, take}
+use borrow.Author.Tests.{eqb-true, eqb-false, eq-eqb, ne-eqb, lt-ltb, le-ltb}
+use Rattle.slices.specs.Slices.{zeros}
+use Rattle.field.specs.Vector.{allBelow}
+use Rattle.system.specs.System.{qOf, nOf, mOf, areSizes, hasSizes, systemRefusal}
+use Rattle.system.proofs.SystemLayout.{at-all-below, sizes-has, sizes-true, accepted}
+use Rattle.scheme.specs.Scheme.{challenges, commitmentsLength, replyLength}
+use Rattle.record.specs.Record.{Elements}
+use Rattle.protocol.specs.Protocols.{cardThree, r1Of, t1Of}
+use Rattle.protocol.specs.Rounds.{mapOf}
+use Rattle.round.specs.ThreePass.{replyThree}
+use Rattle.exchange.specs.Card.{threeVectors, threeReplied}
+use Rattle.honest.proofs.Honest.{Lends}
+use Rattle.session_state.specs.State.{nextCount}
+use Rattle.session_state.proofs.States.{count-below}
+use Rattle.card.specs.declared.session.CardPhase.{CardPhase}
+use Rattle.card.specs.declared.session.CardPhase.the-variants.{AnswerAlpha, Reply}
+use Rattle.card.specs.declared.session.Card.{Card}
+use Rattle.card.specs.Card as CardCalls
+use Rattle.card.specs.Card.{phaseNumber, openedCard, closedCard, noLent, cardWith, heldLent, heldVectors, committedCard, sentCommitments, answeredCard, sentMiddle, nextCard, repliedCard, sentReply, commitRefusal, alphaRefusal, replyRefusal}
+use Rattle.card.proofs.Taken.{commit-taken, commit-due, alpha-taken, alpha-due, reply-taken, reply-due}
+use Rattle.session.specs.Session.{Opening, Given, Asked, World, put, cardMoves}
+use Rattle.session.proofs.Logs.{Clear, put-there, put-stays, put-clear, clear-next}
+use Rattle.session.proofs.States as St
+use Rattle.session.proofs.States.{GivenStays, Link, CardState, Past, past-stays, carrier-stays, given-same, asked-same}
+
+pub by-scheme : {P : Type 0} (scheme : ℕ) → (scheme ≡ 3 → P) → ((scheme ≡ 3 → ⊥) → P) → P
+by-scheme {P = P} scheme three other = go (eqb scheme 3) refl
+  where
+    go : (t : Bool) → eqb scheme 3 ≡ t → P
+    go true e = three (eqb-true scheme 3 e)
+    go false e = other (eqb-false scheme 3 e)
+
+module _ (o : Opening) where
+  -- ---- the card's sessions
+
+  pub card-opens : St.openCard o ≡ St.freshCard o 0
+  unfolding St.freshCard openedCard cardWith noLent
+  card-opens = refl
+
+  committed-is : (r : ℕ) (lent : List ℕ) (phase : CardPhase) → cond (eqb (o .scheme) 3) Reply AnswerAlpha ≡ phase →
+      committedCard (St.freshCard o r) (o .system) lent ≡ St.heldCard o phase r lent
+  unfolding committedCard St.freshCard St.heldCard cardWith openedCard
+  committed-is r lent phase e = ap (λ (p : CardPhase). St.heldCard o p r lent) e
+
+  sent-commitments-is : (r : ℕ) (lent : List ℕ) → sentCommitments (St.freshCard o r) (o .system) lent ≡ St.commitmentsOf o lent
+  unfolding sentCommitments St.commitmentsOf St.freshCard cardWith openedCard
+  sent-commitments-is r lent = refl
+
+  answered-is : (r : ℕ) (lent : List ℕ) → answeredCard (St.heldCard o AnswerAlpha r lent) ≡ St.heldCard o Reply r lent
+  unfolding answeredCard heldLent St.heldCard cardWith openedCard
+  answered-is r lent = refl
+
+  sent-middle-is : (r : ℕ) (lent : List ℕ) (α : ℕ) → sentMiddle (St.heldCard o AnswerAlpha r lent) (o .system) α ≡ St.middleOf o lent α
+  unfolding sentMiddle St.middleOf St.heldCard cardWith openedCard
+  sent-middle-is r lent α = refl
+
+  next-is : (r : ℕ) (lent : List ℕ) → nextCard (St.heldCard o Reply r lent) ≡ St.freshCard o (nextCount r)
+  unfolding nextCard St.heldCard St.freshCard cardWith openedCard
+  next-is r lent = refl
+
+  sent-reply-is : (r : ℕ) (lent : List ℕ) (challenge : ℕ) → sentReply (St.heldCard o Reply r lent) challenge ≡ St.replyOf o lent challenge
+  unfolding sentReply St.replyOf heldLent heldVectors St.heldCard cardWith openedCard threeReplied threeVectors replyThree cardThree r1Of t1Of mapOf
+  sent-reply-is r lent challenge = by-scheme (o .scheme) (λ three. simp three) (λ other. simp (ne-eqb (o .scheme) 3 other))
+
+  -- ---- the call that is due, by the state
+
+  due : {g : Given} {a : Asked} {card : Card} {r : ℕ} → CardState o g a card r → ℕ
+  due (St.is-fresh h e c m p) = 1
+  due (St.is-committed lent h other l e c cn m p) = 2
+  due (St.is-ready lent h l e c cn m mn p) = 3
+  due (St.is-over h e p) = 0
+
+  due-is : {g : Given} {a : Asked} {card : Card} {r : ℕ} (s : CardState o g a card r) → phaseNumber (card .phase) ≡ due s
+  unfolding due phaseNumber St.freshCard St.heldCard cardWith closedCard
+  due-is (St.is-fresh h e c m p) = ap (λ (k : Card). phaseNumber (k .phase)) e
+  due-is (St.is-committed lent h other l e c cn m p) = ap (λ (k : Card). phaseNumber (k .phase)) e
+  due-is (St.is-ready lent h l e c cn m mn p) = ap (λ (k : Card). phaseNumber (k .phase)) e
+  due-is (St.is-over h e p) = ap (λ (k : Card). phaseNumber (k .phase)) e
+
+  -- ---- a call of the card leaves the ends linked
+
+  moved : (w : World) (card : Card) (r : ℕ) (g : Given) → Link o w → GivenStays o (w .given) g → w .cardRound ≤ r → CardState o g (w .asked) card r →
+      ((k : ℕ) → k < r → Past o g (w .asked) k) → Link o (cardMoves w card r g)
+  moved w card r g l stays later state past =
+      record { card-state = state; past = past; carrier-state = carrier-stays o stays (l .carrier-state); behind = omega (arith, l .behind, later) }
+
+  kept-past : (w : World) (g : Given) → Link o w → GivenStays o (w .given) g → (k : ℕ) → k < w .cardRound → Past o g (w .asked) k
+  kept-past w g l stays k h = past-stays o k stays (asked-same o (w .asked)) (l .past k h)
+
+  -- ---- commit
+
+  abbrev pub withCommitments : Given → ℕ → List ℕ → Given
+  withCommitments g r c = record { commitments = put (g .commitments) r c; middles = g .middles; replies = g .replies }
+
+  -- what a card that may commit is, and that nothing is given for its round
+  record Fresh (g : Given) (card : Card) (r : ℕ) : Type 0 where
+    pub below : r < o .rounds
+    pub is : card ≡ St.freshCard o r
+    pub no-commitments : Clear (g .commitments) r
+    pub no-middles : Clear (g .middles) r
+    pub no-replies : Clear (g .replies) r
+
+  fresh : {g : Given} {a : Asked} {card : Card} {r : ℕ} → CardState o g a card r → phaseNumber (card .phase) ≡ 1 → Fresh g card r
+  unfolding due
+  fresh (St.is-fresh h e c m p) k = record { below = h; is = e; no-commitments = c; no-middles = m; no-replies = p }
+  fresh {g = g} {a = a} {card = card} {r = r} (St.is-committed lent h other l e c cn m p) k =
+      absurd (omega (arith, k, due-is {g = g} {a = a} {card = card} {r = r} (St.is-committed lent h other l e c cn m p)))
+  fresh {g = g} {a = a} {card = card} {r = r} (St.is-ready lent h l e c cn m mn p) k =
+      absurd (omega (arith, k, due-is {g = g} {a = a} {card = card} {r = r} (St.is-ready lent h l e c cn m mn p)))
+  fresh {g = g} {a = a} {card = card} {r = r} (St.is-over h e p) k = absurd (omega (arith, k, due-is {g = g} {a = a} {card = card} {r = r} (St.is-over h e p)))
+
+  lends-of : (card : Card) (r : ℕ) (lent : List ℕ) → card ≡ St.freshCard o r → allBelow (card .q) (take (card .n + card .n + card .m) lent) ≡ true → Lends (o .system) lent
+  unfolding St.freshCard cardWith openedCard
+  lends-of card r lent e h = rw e at h
+
+  committed-state : (g : Given) (a : Asked) (card : Card) (r : ℕ) (lent : List ℕ) → Fresh g card r → Lends (o .system) lent →
+      CardState o (withCommitments g r (sentCommitments card (o .system) lent)) a (committedCard card (o .system) lent) r
+  committed-state g a card r lent f lends =
+      let c = sentCommitments card (o .system) lent in
+      let given = put-there (g .commitments) r c ∙ ap some (ap (λ (k : Card). sentCommitments k (o .system) lent) (f .is) ∙ sent-commitments-is r lent) in
+      let clear = put-clear (g .commitments) r c (f .no-commitments) in
+      let is = ap (λ (k : Card). committedCard k (o .system) lent) (f .is) in
+      by-scheme (o .scheme)
+      (λ three. St.is-ready lent (f .below) lends (is ∙ committed-is r lent Reply (rw three)) given clear (St.no-middle three) (clear-next (g .middles) r (f .no-middles)) (f .no-replies))
+      (λ other. St.is-committed lent (f .below) other lends (is ∙ committed-is r lent AnswerAlpha (rw (ne-eqb (o .scheme) 3 other))) given clear (f .no-middles) (f .no-replies))
+
+  commitments-stay : (g : Given) (r : ℕ) (c : List ℕ) → Clear (g .commitments) r → GivenStays o g (withCommitments g r c)
+  commitments-stay g r c clear = record { commitments-stay = put-stays (g .commitments) r c clear; middles-stay = λ k x e. e; replies-stay = λ k x e. e }
+
+  pub commit-linked : (w : World) (lent : List ℕ) (out : ℕ) → Link o w → commitRefusal (w .card) (o .system) lent out ≡ 0 →
+      Link o (cardMoves w (committedCard (w .card) (o .system) lent) (w .cardRound) (withCommitments (w .given) (w .cardRound) (sentCommitments (w .card) (o .system) lent)))
+  commit-linked w lent out l none =
+      let k = commit-taken (w .card) (o .system) lent out none in
+      let f = fresh (l .card-state) (k .due) in
+      let lends = lends-of (w .card) (w .cardRound) lent (f .is) (k .elements) in
+      let stays = commitments-stay (w .given) (w .cardRound) (sentCommitments (w .card) (o .system) lent) (f .no-commitments) in
+      moved w _ (w .cardRound) _ l stays (le-refl _) (committed-state (w .given) (w .asked) (w .card) (w .cardRound) lent f lends) (kept-past w _ l stays)
+
+  -- ---- reply to α
+
+  abbrev pub withMiddles : Given → ℕ → List ℕ → Given
+  withMiddles g r l = record { commitments = g .commitments; middles = put (g .middles) r l; replies = g .replies }
+
+  record Committed (g : Given) (card : Card) (r : ℕ) : Type 0 where
+    pub lent : List ℕ
+    pub below : r < o .rounds
+    pub five : o .scheme ≡ 3 → ⊥
+    pub lends : Lends (o .system) lent
+    pub is : card ≡ St.heldCard o AnswerAlpha r lent
+    pub commitments-given : g .commitments r ≡ some (St.commitmentsOf o lent)
+    pub no-more-commitments : Clear (g .commitments) (r + 1)
+    pub no-middles : Clear (g .middles) r
+    pub no-replies : Clear (g .replies) r
+
+  committed : {g : Given} {a : Asked} {card : Card} {r : ℕ} → CardState o g a card r → phaseNumber (card .phase) ≡ 2 → Committed g card r
+  unfolding due
+  committed (St.is-committed lent h other l e c cn m p) k =
+      record { lent = lent; below = h; five = other; lends = l; is = e; commitments-given = c; no-more-commitments = cn; no-middles = m; no-replies = p }
+  committed {g = g} {a = a} {card = card} {r = r} (St.is-fresh h e c m p) k = absurd (omega (arith, k, due-is {g = g} {a = a} {card = card} {r = r} (St.is-fresh h e c m p)))
+  committed {g = g} {a = a} {card = card} {r = r} (St.is-ready lent h l e c cn m mn p) k =
+      absurd (omega (arith, k, due-is {g = g} {a = a} {card = card} {r = r} (St.is-ready lent h l e c cn m mn p)))
+  committed {g = g} {a = a} {card = card} {r = r} (St.is-over h e p) k = absurd (omega (arith, k, due-is {g = g} {a = a} {card = card} {r = r} (St.is-over h e p)))
+
+  answered-state : (g : Given) (a : Asked) (card : Card) (r α : ℕ) → Committed g card r → a .alphas r ≡ some α →
+      CardState o (withMiddles g r (sentMiddle card (o .system) α)) a (answeredCard card) r
+  answered-state g a card r α f asked =
+      let l = sentMiddle card (o .system) α in
+      let given = put-there (g .middles) r l ∙ ap some (ap (λ (k : Card). sentMiddle k (o .system) α) (f .is) ∙ sent-middle-is r (f .lent) α) in
+      St.is-ready (f .lent) (f .below) (f .lends) (ap answeredCard (f .is) ∙ answered-is r (f .lent)) (f .commitments-given) (f .no-more-commitments)
+      (St.with-middle (f .five) α asked given) (put-clear (g .middles) r l (f .no-middles)) (f .no-replies)
+
+  pub answer-linked : (w : World) (α out : ℕ) → Link o w → alphaRefusal (w .card) (o .system) α out ≡ 0 → w .asked .alphas (w .cardRound) ≡ some α →
+      Link o (cardMoves w (answeredCard (w .card)) (w .cardRound) (withMiddles (w .given) (w .cardRound) (sentMiddle (w .card) (o .system) α)))
+  answer-linked w α out l none asked =
+      let f = committed (l .card-state) (alpha-taken (w .card) (o .system) α out none .due) in
+      let stays : GivenStays o (w .given) (withMiddles (w .given) (w .cardRound) (sentMiddle (w .card) (o .system) α)) =
+      record { commitments-stay = λ k x e. e; middles-stay = put-stays (w .given .middles) (w .cardRound) _ (f .no-middles); replies-stay = λ k x e. e } in
+      moved w _ (w .cardRound) _ l stays (le-refl _) (answered-state (w .given) (w .asked) (w .card) (w .cardRound) α f asked) (kept-past w _ l stays)
+
+  -- ---- reply
+
+  abbrev pub withReplies : Given → ℕ → List ℕ → Given
+  withReplies g r l = record { commitments = g .commitments; middles = g .middles; replies = put (g .replies) r l }
+
+  record Ready (g : Given) (a : Asked) (card : Card) (r : ℕ) : Type 0 where
+    pub lent : List ℕ
+    pub below : r < o .rounds
+    pub lends : Lends (o .system) lent
+    pub is : card ≡ St.heldCard o Reply r lent
+    pub commitments-given : g .commitments r ≡ some (St.commitmentsOf o lent)
+    pub no-more-commitments : Clear (g .commitments) (r + 1)
+    pub middle-given : St.MiddleGiven o g a r lent
+    pub no-more-middles : Clear (g .middles) (r + 1)
+    pub no-replies : Clear (g .replies) r
+
+  ready : {g : Given} {a : Asked} {card : Card} {r : ℕ} → CardState o g a card r → phaseNumber (card .phase) ≡ 3 → Ready g a card r
+  unfolding due
+  ready (St.is-ready lent h l e c cn m mn p) k =
+      record { lent = lent; below = h; lends = l; is = e; commitments-given = c; no-more-commitments = cn; middle-given = m; no-more-middles = mn; no-replies = p }
+  ready {g = g} {a = a} {card = card} {r = r} (St.is-fresh h e c m p) k = absurd (omega (arith, k, due-is {g = g} {a = a} {card = card} {r = r} (St.is-fresh h e c m p)))
+  ready {g = g} {a = a} {card = card} {r = r} (St.is-committed lent h other l e c cn m p) k =
+      absurd (omega (arith, k, due-is {g = g} {a = a} {card = card} {r = r} (St.is-committed lent h other l e c cn m p)))
+  ready {g = g} {a = a} {card = card} {r = r} (St.is-over h e p) k = absurd (omega (arith, k, due-is {g = g} {a = a} {card = card} {r = r} (St.is-over h e p)))
+
+  rounds-kept : (r : ℕ) (lent : List ℕ) → St.heldCard o Reply r lent .rounds ≡ o .rounds
+  unfolding St.heldCard cardWith openedCard
+  rounds-kept r lent = refl
+
+  scheme-kept : (phase : CardPhase) (r : ℕ) (lent : List ℕ) → St.heldCard o phase r lent .scheme ≡ o .scheme
+  unfolding St.heldCard cardWith openedCard
+  scheme-kept phase r lent = refl
+
+  round-kept : (r : ℕ) (lent : List ℕ) → St.heldCard o Reply r lent .round ≡ r
+  unfolding St.heldCard cardWith openedCard
+  round-kept r lent = refl
+
+  -- the card after its reply: in its next round, or closed
+  replied-next : (r : ℕ) (lent : List ℕ) → r + 1 < o .rounds → o .rounds < 256 → repliedCard (St.heldCard o Reply r lent) ≡ St.freshCard o (r + 1)
+  unfolding repliedCard
+  replied-next r lent more small =
+      let count : nextCount r ≡ r + 1 = count-below r (o .rounds) (omega arith) small in
+      simp (round-kept r lent, rounds-kept r lent, count, lt-ltb (r + 1) (o .rounds) more) (next-is r lent ∙ ap (St.freshCard o) count)
+
+  replied-last : (r : ℕ) (lent : List ℕ) → r < o .rounds → o .rounds ≤ r + 1 → o .rounds < 256 → repliedCard (St.heldCard o Reply r lent) ≡ closedCard
+  unfolding repliedCard
+  replied-last r lent below last small =
+      let count : nextCount r ≡ r + 1 = count-below r (o .rounds) below small in
+      simp (round-kept r lent, rounds-kept r lent, count, le-ltb (r + 1) (o .rounds) last)
+
+  replied-state : (g : Given) (a : Asked) (card : Card) (r challenge : ℕ) → Ready g a card r → o .rounds < 256 →
+      CardState o (withReplies g r (sentReply card challenge)) a (repliedCard card) (r + 1)
+  replied-state g a card r challenge f small =
+      let l = sentReply card challenge in
+      let clear = put-clear (g .replies) r l (f .no-replies) in
+      let is = ap repliedCard (f .is) in
+      elim (decLe (o .rounds) (r + 1)) [
+        | yes last ↦ St.is-over (omega (arith, f .below, last)) (is ∙ replied-last r (f .lent) (f .below) last small) clear
+        | no more ↦
+            let below = lt-of-not-le more in
+            St.is-fresh below (is ∙ replied-next r (f .lent) below small) (f .no-more-commitments) (f .no-more-middles) clear
+      ]
+
+  pub reply-linked : (w : World) (challenge out : ℕ) → Link o w → o .rounds < 256 → replyRefusal (w .card) challenge out ≡ 0 →
+      w .asked .challenges (w .cardRound) ≡ some challenge →
+      Link o (cardMoves w (repliedCard (w .card)) (w .cardRound + 1) (withReplies (w .given) (w .cardRound) (sentReply (w .card) challenge)))
+  reply-linked w challenge out l small none asked =
+      let r = w .cardRound in
+      let k = reply-taken (w .card) challenge out none in
+      let f = ready (l .card-state) (k .due) in
+      let g = withReplies (w .given) r (sentReply (w .card) challenge) in
+      let scheme : w .card .scheme ≡ o .scheme = ap (λ (c : Card). c .scheme) (f .is) ∙ scheme-kept Reply r (f .lent) in
+      let stays : GivenStays o (w .given) g =
+      record { commitments-stay = λ k x e. e; middles-stay = λ k x e. e; replies-stay = put-stays (w .given .replies) r _ (f .no-replies) } in
+      let last : Past o g (w .asked) r =
+      record {
+        lent = f .lent;
+        challenge = challenge;
+        lends = f .lends;
+        commitments-given = f .commitments-given;
+        middle-given = St.middle-stays o r (f .lent) stays (asked-same o (w .asked)) (f .middle-given);
+        challenge-given = asked;
+        challenge-value = rw scheme at (k .value);
+        reply-given = put-there (w .given .replies) r _ ∙ ap some (ap (λ (c : Card). sentReply c challenge) (f .is) ∙ sent-reply-is r (f .lent) challenge);
+      } in
+      moved w _ (r + 1) g l stays (omega arith) (replied-state (w .given) (w .asked) (w .card) r challenge f small)
+      (λ j h. ⊎-elim (λ (same : j ≡ r). rw same last) (λ (before : j < r). kept-past w g l stays j before) (eq-or-lt-of-le (omega arith)))
+
+  -- ---- a call that is due is not refused
+
+  module _ (good : systemRefusal (o .system) ≡ 0) where
+    pub commit-goes : (w : World) (lent : List ℕ) (out : ℕ) → Link o w → phaseNumber (w .card .phase) ≡ 1 →
+        length lent ≡ nOf (o .system) + nOf (o .system) + mOf (o .system) + commitmentsLength (o .scheme) → out ≡ commitmentsLength (o .scheme) →
+        Elements (qOf (o .system)) (take (nOf (o .system) + nOf (o .system) + mOf (o .system)) lent) → commitRefusal (w .card) (o .system) lent out ≡ 0
+    unfolding St.freshCard cardWith openedCard phaseNumber
+    commit-goes w lent out l phase long room elements =
+        let f = fresh (l .card-state) phase in
+        ap (λ (k : Card). commitRefusal k (o .system) lent out) (f .is) ∙
+        commit-due (St.freshCard o (w .cardRound)) (o .system) lent out
+        (record { due = refl; good = good; fits = sizes-has (o .system) _ _ _ refl refl refl; lent-length = long; room = room; elements = at-all-below _ _ elements })
+
+    pub answer-goes : (w : World) (α out : ℕ) → Link o w → phaseNumber (w .card .phase) ≡ 2 → out ≡ nOf (o .system) + mOf (o .system) → α < qOf (o .system) →
+        alphaRefusal (w .card) (o .system) α out ≡ 0
+    unfolding St.heldCard cardWith openedCard phaseNumber
+    answer-goes w α out l phase room element =
+        let f = committed (l .card-state) phase in
+        ap (λ (k : Card). alphaRefusal k (o .system) α out) (f .is) ∙
+        alpha-due (St.heldCard o AnswerAlpha (w .cardRound) (f .lent)) (o .system) α out
+        (record { due = refl; good = good; fits = sizes-has (o .system) _ _ _ refl refl refl; room = room; element = element })
+
+    pub reply-goes : (w : World) (challenge out : ℕ) → Link o w → phaseNumber (w .card .phase) ≡ 3 →
+        out ≡ replyLength (o .scheme) (nOf (o .system)) (mOf (o .system)) → challenge < challenges (o .scheme) → replyRefusal (w .card) challenge out ≡ 0
+    unfolding St.heldCard cardWith openedCard phaseNumber
+    reply-goes w challenge out l phase room value =
+        let f = ready (l .card-state) phase in
+        let k = accepted (o .system) good in
+        ap (λ (c : Card). replyRefusal c challenge out) (f .is) ∙
+        reply-due (St.heldCard o Reply (w .cardRound) (f .lent)) challenge out
+        (record { due = refl; sizes = sizes-true (qOf (o .system)) (nOf (o .system)) (mOf (o .system)) (k .is-field) (k .n-low, k .n-high) (k .m-low, k .m-high); room = room; value = value })

@@ -1,0 +1,6 @@
+pub mod CardSide
+pub mod CarrierSide
+pub mod HonestSession
+pub mod Logs
+pub mod States
+pub mod Verdicts
