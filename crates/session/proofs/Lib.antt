@@ -1,5 +1,6 @@
 pub mod CardSide
 pub mod CarrierSide
+pub mod Counts
 pub mod HonestSession
 pub mod Logs
 pub mod States

@@ -200,3 +200,25 @@ Ended o w = w .carrierRound ≡ o .rounds → (w .carrier ≡ CarrierCalls.close
 unfoldable pub Holds : Opening → World → List Call → Type 0
 Holds o w [] = Ended o w
 Holds o w (c ∷ cs) = Ended o w × (Due o w c → refusal w c ≡ 0) × Accepts o w c × Holds o (step w c) cs
+
+-- ---- the count of accepted rounds, for every list of calls, honest or not
+
+-- both ends after a list of calls
+unfoldable pub after : World → List Call → World
+after w [] = w
+after w (c ∷ cs) = after (step w c) cs
+
+-- 1 for a reply that is taken and whose round is accepted by the scheme's check
+unfoldable pub acceptedReply : World → Call → ℕ
+acceptedReply w (takeReply b r) = kept (refusal w (takeReply b r)) 0 (cond (CarrierCalls.acceptsReply (w .carrier) b r) 1 0)
+acceptedReply w (commit b lent out) = 0
+acceptedReply w (answerAlpha b α out) = 0
+acceptedReply w (reply challenge out) = 0
+acceptedReply w (takeCommitments commitments) = 0
+acceptedReply w (setAlpha α) = 0
+acceptedReply w (takeMiddle middle) = 0
+acceptedReply w (setChallenge challenge) = 0
+
+unfoldable pub acceptedReplies : World → List Call → ℕ
+acceptedReplies w [] = 0
+acceptedReplies w (c ∷ cs) = acceptedReply w c + acceptedReplies (step w c) cs
