@@ -49,12 +49,12 @@ module _ (o : Opening) where
   unfolding St.freshCard openedCard cardWith noLent
   card-opens = refl
 
-  committed-is : (r : ℕ) (lent : List ℕ) (phase : CardPhase) → cond (eqb (o .scheme) 3) Reply AnswerAlpha ≡ phase →
+  pub committed-is : (r : ℕ) (lent : List ℕ) (phase : CardPhase) → cond (eqb (o .scheme) 3) Reply AnswerAlpha ≡ phase →
       committedCard (St.freshCard o r) (o .system) lent ≡ St.heldCard o phase r lent
   unfolding committedCard St.freshCard St.heldCard cardWith openedCard
   committed-is r lent phase e = ap (λ (p : CardPhase). St.heldCard o p r lent) e
 
-  sent-commitments-is : (r : ℕ) (lent : List ℕ) → sentCommitments (St.freshCard o r) (o .system) lent ≡ St.commitmentsOf o lent
+  pub sent-commitments-is : (r : ℕ) (lent : List ℕ) → sentCommitments (St.freshCard o r) (o .system) lent ≡ St.commitmentsOf o lent
   unfolding sentCommitments St.commitmentsOf St.freshCard cardWith openedCard
   sent-commitments-is r lent = refl
 
@@ -70,7 +70,7 @@ module _ (o : Opening) where
   unfolding nextCard St.heldCard St.freshCard cardWith openedCard
   next-is r lent = refl
 
-  sent-reply-is : (r : ℕ) (lent : List ℕ) (challenge : ℕ) → sentReply (St.heldCard o Reply r lent) challenge ≡ St.replyOf o lent challenge
+  pub sent-reply-is : (r : ℕ) (lent : List ℕ) (challenge : ℕ) → sentReply (St.heldCard o Reply r lent) challenge ≡ St.replyOf o lent challenge
   unfolding sentReply St.replyOf heldLent heldVectors St.heldCard cardWith openedCard threeReplied threeVectors replyThree cardThree r1Of t1Of mapOf
   sent-reply-is r lent challenge = by-scheme (o .scheme) (λ three. simp three) (λ other. simp (ne-eqb (o .scheme) 3 other))
 

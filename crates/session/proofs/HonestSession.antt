@@ -43,7 +43,7 @@ opens o none =
       key-is = k .key;
     }
 
-start : (o : Opening) → Opens o → Link o (opened o)
+pub start : (o : Opening) → Opens o → Link o (opened o)
 unfolding opened
 start o k =
     record {
@@ -56,7 +56,7 @@ start o k =
 module _ (o : Opening) (k : Opens o) where
   -- ---- one call
 
-  effect-linked : (w : World) (c : Call) → Link o w → refusal w c ≡ 0 → Unaltered o w c → Link o (effect w c)
+  pub effect-linked : (w : World) (c : Call) → Link o w → refusal w c ≡ 0 → Unaltered o w c → Link o (effect w c)
   unfolding refusal effect Unaltered
   effect-linked w (commit b lent out) l none e = rw e (commit-linked o w lent out l (rw e at none))
   effect-linked w (answerAlpha b α out) l none e = rw (e .0) (answer-linked o w α out l (rw (e .0) at none) (e .1))
@@ -79,7 +79,7 @@ module _ (o : Opening) (k : Opens o) where
 
   -- ---- what is claimed of one call
 
-  due-goes : (w : World) (c : Call) → Link o w → Due o w c → refusal w c ≡ 0
+  pub due-goes : (w : World) (c : Call) → Link o w → Due o w c → refusal w c ≡ 0
   unfolding refusal Due
   due-goes w (commit b lent out) l (phase, e, long, room, elements) = rw e (commit-goes o (k .good) w lent out l phase long room elements)
   due-goes w (answerAlpha b α out) l (phase, e, room, element) = rw e (answer-goes o (k .good) w α out l phase room element)
