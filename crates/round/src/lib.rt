@@ -21,6 +21,7 @@ pub use pieces::ReplyThree;
 pub use pieces::Rhos;
 pub use pieces::Vectors;
 pub use three::commitments_three;
+pub use three::first_number;
 pub use three::first_opening;
 pub use three::reply_three;
 pub use three::second_opening;

@@ -111,7 +111,7 @@ fn opened_second(
 }
 
 // The numbers of the commitments that a reply opens.
-fn first_number(challenge: u8) -> u8
+pub fn first_number(challenge: u8) -> u8
     ensures { λ r. ⌜ r ≡ firstNumber challenge ⌝ }
 {
     match challenge {

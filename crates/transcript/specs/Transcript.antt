@@ -4,6 +4,7 @@ use mathlib.Core.Bool.{Bool, cond}
 use mathlib.Core.List.{List}
 use lib.ListN.{length, take, drop}
 use Rattle.slices.specs.Slices.{_!_}
+use Rattle.refusal.specs.Refusal.{_orElse_}
 use Rattle.field.specs.Vector.{vector}
 use Rattle.scheme.specs.Scheme as S
 use Rattle.record.specs.Record.{exchangeOf, middleOf, challengeOf, replyOf}
@@ -24,16 +25,27 @@ roundCommitments b r =
 unfoldable pub roundExchange : List ℕ → ℕ → List ℕ
 roundExchange b r = exchangeOf (headerIn b) (fieldsIn b .exchanges) r
 
+-- its parts
+abbrev pub roundMiddle : List ℕ → ℕ → List ℕ
+roundMiddle b r = middleOf (headerIn b) (roundExchange b r)
+
 unfoldable pub roundChallenge : List ℕ → ℕ → ℕ
 roundChallenge b r = challengeOf (headerIn b) (roundExchange b r)
+
+abbrev pub roundReply : List ℕ → ℕ → List ℕ
+roundReply b r = replyOf (headerIn b) (roundExchange b r)
 
 -- the round is accepted by the check of its scheme, for the system and the record's key
 unfoldable pub acceptedRound : List ℕ → List ℕ → ℕ → Bool
 acceptedRound system b r =
-    accepts system (headerIn b .scheme) (keyVector b) (roundCommitments b r)
-    (middleOf (headerIn b) (roundExchange b r)) (roundChallenge b r) (replyOf (headerIn b) (roundExchange b r))
+    accepts system (headerIn b .scheme) (keyVector b) (roundCommitments b r) (roundMiddle b r) (roundChallenge b r) (roundReply b r)
 
 -- how many of the first n rounds are accepted
 unfoldable pub acceptedCount : List ℕ → List ℕ → ℕ → ℕ
 acceptedCount system b zero = 0
 acceptedCount system b (suc n) = acceptedCount system b n + cond (acceptedRound system b n) 1 0
+
+-- the first i below n for which the test holds, counted from 1; 0 where there is none
+unfoldable pub firstWhere : ℕ → (ℕ → Bool) → ℕ
+firstWhere zero test = 0
+firstWhere (suc n) test = firstWhere n test orElse cond (test n) (n + 1) 0

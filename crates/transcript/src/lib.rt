@@ -16,9 +16,7 @@ use slices::byte_at;
 use slices::part;
 ghost use mathlib.Core.Path.{_≡_};
 ghost use Rattle.system.specs.System.{systemRefusal};
-ghost use Rattle.record.specs.Record.{middleOf, replyOf};
-ghost use Rattle.record.specs.Reader.{headerIn};
-ghost use Rattle.transcript.specs.Transcript.{keyVector, roundCommitments, roundExchange, roundChallenge, acceptedRound};
+ghost use Rattle.transcript.specs.Transcript.{keyVector, roundCommitments, roundExchange, roundMiddle, roundChallenge, roundReply, acceptedRound};
 
 // v.
 pub fn key_vector(bytes: &[u8]) -> [u8; 96]
@@ -55,7 +53,7 @@ pub fn round_exchange(bytes: &[u8], r: u8) -> &[u8]
 
 // What of an exchange stands before the challenge.
 pub fn round_middle(bytes: &[u8], r: u8) -> &[u8]
-    ensures { λ s. ⌜ now s ≡ middleOf (headerIn (now (bytes .entry))) (roundExchange (now (bytes .entry)) r) ⌝ }
+    ensures { λ s. ⌜ now s ≡ roundMiddle (now (bytes .entry)) r ⌝ }
 {
     let h = header_of(bytes);
     part(
@@ -75,7 +73,7 @@ pub fn round_challenge(bytes: &[u8], r: u8) -> u8
 
 // The reply of a round.
 pub fn round_reply(bytes: &[u8], r: u8) -> &[u8]
-    ensures { λ s. ⌜ now s ≡ replyOf (headerIn (now (bytes .entry))) (roundExchange (now (bytes .entry)) r) ⌝ }
+    ensures { λ s. ⌜ now s ≡ roundReply (now (bytes .entry)) r ⌝ }
 {
     let h = header_of(bytes);
     part(

@@ -1,0 +1,37 @@
+-- Outcomes and the answers that hold them. Assumes nothing.
+use Prim.Native.Nat.{ℕ, _-_, _≤_}
+use mathlib.Core.Path.{_≡_, refl, sym, ap, ap₂, _∙_}
+use mathlib.Core.List.{List, []}
+use lib.ListN.{length, take, replicate}
+use Rattle.slices.specs.Slices.{zeros}
+use Rattle.commitment.specs.declared.Text.{Text}
+use Rattle.commitment.specs.Held.{text}
+use Rattle.commitment.proofs.HeldStrings.{content}
+use Rattle.audit.specs.declared.Finding.the-variants.{Secret, Clash, Refused}
+use Rattle.audit.specs.declared.Audited.{Audited}
+use Rattle.audit.specs.Outcome.{Outcome, secret, clash, refused, answerOf, outcomeBy, outcomeOf, Answers}
+
+-- the same outcome by another name
+pub answers-by : (r : Audited) (o p : Outcome) → Answers r o → o ≡ p → Answers r p
+answers-by r o p k e = record { is = k .is ∙ ap answerOf e; says = k .says ∙ e }
+
+pub answers-refused : (number whose round : ℕ) (s : List ℕ) (x y : Text) → s ≡ zeros 96 → x ≡ text [] → y ≡ text [] →
+    Answers (record { finding = Refused number whose round; secret = s; first = x; second = y }) (refused number whose round)
+unfolding answerOf outcomeOf outcomeBy
+answers-refused number whose round s x y no-secret no-first no-second =
+    record { is = λ i. record { finding = Refused number whose round; secret = no-secret i; first = no-first i; second = no-second i }; says = refl }
+
+pub answers-secret : (s t : List ℕ) (x y : Text) → s ≡ t → x ≡ text [] → y ≡ text [] →
+    Answers (record { finding = Secret; secret = s; first = x; second = y }) (secret t)
+unfolding answerOf outcomeOf outcomeBy
+answers-secret s t x y is no-first no-second =
+    record { is = λ i. record { finding = Secret; secret = is i; first = no-first i; second = no-second i }; says = ap secret is }
+
+pub answers-clash : (k : ℕ) (s : List ℕ) (x y : Text) (l m : List ℕ) → s ≡ zeros 96 → x ≡ text l → x .len ≤ 322 → y ≡ text m → y .len ≤ 322 →
+    Answers (record { finding = Clash k; secret = s; first = x; second = y }) (clash k l m)
+unfolding answerOf outcomeOf outcomeBy
+answers-clash k s x y l m no-secret first first-room second second-room =
+    record {
+      is = λ i. record { finding = Clash k; secret = no-secret i; first = first i; second = second i };
+      says = ap₂ (clash k) (content x l first first-room) (content y m second second-room);
+    }

@@ -1,0 +1,19 @@
+-- The callees' answers, put together. Assumes nothing.
+use mathlib.Core.Path.{refl, ap, _∙_}
+use Rattle.slices.specs.Slices.{zeros}
+use Rattle.audit.specs.Audit.{clashAt}
+use Rattle.audit.proofs.Answering.{answers-clash}
+use borrow.Author.Needs.{needs}
+use Rattle.audit.proofs.clash_at.Statement.{statement}
+use Rattle.audit.proofs.clash_at.Tie as tie
+
+pub clash-at-spec : {M : Type 1} → statement M
+unfolding clashAt zeros
+clash-at-spec =
+    tie.close
+    (tie.spec
+    (λ c κs. search needs)
+    (λ c κs. search needs)
+    (λ c κs. search needs)
+    (λ c κs. search needs)
+    (λ c. answers-clash _ _ _ _ _ _ refl (simp (c .before .opening .ensures .0, c .before .before .before .left-record .ensures)) (c .before .opening .ensures .1) (simp (c .opening2 .ensures .0, c .before .before .right-record .ensures)) (c .opening2 .ensures .1)))

@@ -1,0 +1,18 @@
+-- The callees' answers, put together. Assumes nothing.
+use Rattle.audit.specs.Audit.{secretAt}
+use Rattle.audit.proofs.Answering.{answers-secret}
+use borrow.Author.Needs.{needs}
+use Rattle.audit.proofs.secret_at.Statement.{statement}
+use Rattle.audit.proofs.secret_at.Tie as tie
+
+pub secret-at-spec : {M : Type 1} → statement M
+unfolding secretAt
+secret-at-spec =
+    tie.close
+    (tie.spec
+    (λ c κs. search needs)
+    (λ c κs. search needs)
+    (λ c κs. search needs)
+    (λ c κs. search needs)
+    (λ c κs. search needs)
+    (λ c. answers-secret _ _ _ _ (simp (c .before .before .secret .ensures, c .before .before .before .answering2 .ensures, c .before .before .before .before .answering .ensures)) (c .before .empty .ensures) (c .empty2 .ensures)))

@@ -1,0 +1,3 @@
+-- What the contracts of the audits cite.
+pub mod Outcome
+pub mod Audit

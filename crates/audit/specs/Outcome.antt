@@ -1,0 +1,36 @@
+-- The answers of an audit in document 01's terms, and what each is in the code's.
+use Prim.Native.Nat.{ℕ}
+use mathlib.Core.Path.{_≡_}
+use mathlib.Core.List.{List, []}
+use lib.ListN.{take}
+use Rattle.slices.specs.Slices.{zeros}
+use Rattle.commitment.specs.Held.{text}
+use Rattle.audit.specs.declared.Finding.{Finding}
+use Rattle.audit.specs.declared.Finding.the-variants.{Secret, Clash, Refused}
+use Rattle.audit.specs.declared.Audited.{Audited}
+
+-- a secret; a clash, "its k and both whole hashed strings"; or a refusal by its number with a record and a round
+pub data Outcome : Type 0 where
+  secret : List ℕ → Outcome
+  clash : ℕ → List ℕ → List ℕ → Outcome
+  refused : ℕ → ℕ → ℕ → Outcome
+
+-- "zero beyond their lengths, the secret zero"; "both strings empty"; "On a refusal the secret and both strings are zero, with lengths 0."
+unfoldable pub answerOf : Outcome → Audited
+answerOf (secret s) = record { finding = Secret; secret = s; first = text []; second = text [] }
+answerOf (clash k x y) = record { finding = Clash k; secret = zeros 96; first = text x; second = text y }
+answerOf (refused number whose round) = record { finding = Refused number whose round; secret = zeros 96; first = text []; second = text [] }
+
+-- this document's number and values for each of the finding's cases
+unfoldable pub outcomeBy : Finding → Audited → Outcome
+outcomeBy Secret r = secret (r .secret)
+outcomeBy (Clash k) r = clash k (take (r .first .len) (r .first .bytes)) (take (r .second .len) (r .second .bytes))
+outcomeBy (Refused number whose round) r = refused number whose round
+
+unfoldable pub outcomeOf : Audited → Outcome
+outcomeOf r = outcomeBy (r .finding) r
+
+-- the code's answer is that of the outcome, and its values are the outcome's
+pub record Answers (r : Audited) (o : Outcome) : Type 0 where
+  pub is : r ≡ answerOf o
+  pub says : outcomeOf r ≡ o

@@ -1,0 +1,162 @@
+// The audit: from records whose commitments repeat, the card's secret, or one commitment opened in two ways.
+//
+// The entries `audit_three` and `audit_five` take any bytes. Each checks the system, then each record in turn, then that the
+// records belong together, then judges every round, and then looks for the first round with a full set of challenges.
+use clash::first_clash;
+use clash::left_record;
+use clash::right_record;
+use commitment::Text;
+use comparable::first_rejection;
+use comparable::front_refusal;
+use full_set::answering;
+use full_set::first_full;
+use openings::opening;
+use openings::secret;
+ghost use mathlib.Core.Path.{_≡_};
+ghost use mathlib.Core.List.{[]};
+ghost use Rattle.system.specs.System.{systemRefusal};
+ghost use Rattle.commitment.specs.Held.{text};
+ghost use Rattle.audit.specs.Outcome.{refused as Outcome·refused, Answers};
+ghost use Rattle.audit.specs.Audit.{clashAt, secretAt, searchOf, auditOf, auditThree, auditFive};
+
+// What an audit finds: the secret; commitment k opened with different vectors; or nothing, by the refusal's number with
+// the record and the round, which are 0 but where a round is rejected.
+pub enum Finding {
+    Secret,
+    Clash(u8),
+    Refused(u8, u8, u8),
+}
+
+// A finding with its arrays: the secret, and the two strings of a clash, zero where there is none.
+pub struct Audited {
+    pub finding: Finding,
+    pub secret: [u8; 96],
+    pub first: Text,
+    pub second: Text,
+}
+
+// The empty string.
+fn empty() -> Text
+    ensures { λ r. ⌜ r ≡ text [] ⌝ }
+{
+    Text {
+        bytes: [0; 322],
+        len: 0,
+    }
+}
+
+// A refusal, with the record and the round that it names.
+fn refused(number: u8, whose: u8, round: u8) -> Audited
+    ensures { λ r. ⌜ Answers r (Outcome·refused number whose round) ⌝ }
+{
+    Audited {
+        finding: Finding::Refused(number, whose, round),
+        secret: [0; 96],
+        first: empty(),
+        second: empty(),
+    }
+}
+
+// The secret, from a round with a full set.
+fn secret_at<'a>(system: &'a [u8], a: &'a [u8], b: &'a [u8], c: &'a [u8], r: u8) -> Audited
+    ensures { λ o. ⌜ Answers o (secretAt (now (system .entry)) (now (a .entry)) (now (b .entry)) (now (c .entry)) r) ⌝ }
+{
+    let zero = answering(a, b, c, r, 0);
+    let one = answering(a, b, c, r, 1);
+    Audited {
+        finding: Finding::Secret,
+        secret: secret(system, zero, one, r),
+        first: empty(),
+        second: empty(),
+    }
+}
+
+// Commitment k of a round, opened in two ways.
+fn clash_at<'a>(
+    scheme: u8,
+    system: &'a [u8],
+    a: &'a [u8],
+    b: &'a [u8],
+    c: &'a [u8],
+    d: &'a [u8],
+    r: u8,
+    k: u8,
+) -> Audited
+    requires { ⌜ systemRefusal (now system) ≡ 0 ⌝ }
+    ensures { λ o. ⌜ Answers o (clashAt scheme (now (system .entry)) (now (a .entry)) (now (b .entry)) (now (c .entry)) (now (d .entry)) r k) ⌝ }
+{
+    let left = left_record(scheme, a, b, c, r, k);
+    let right = right_record(scheme, a, b, c, d, r, k);
+    Audited {
+        finding: Finding::Clash(k),
+        secret: [0; 96],
+        first: opening(system, left, r, k),
+        second: opening(system, right, r, k),
+    }
+}
+
+// What a search over the rounds finds.
+fn search<'a>(
+    scheme: u8,
+    system: &'a [u8],
+    a: &'a [u8],
+    b: &'a [u8],
+    c: &'a [u8],
+    d: &'a [u8],
+) -> Audited
+    requires { ⌜ systemRefusal (now system) ≡ 0 ⌝ }
+    ensures { λ o. ⌜ Answers o (searchOf scheme (now (system .entry)) (now (a .entry)) (now (b .entry)) (now (c .entry)) (now (d .entry))) ⌝ }
+{
+    let round = first_full(scheme, a, b, c, d);
+    if round == 0 {
+        return refused(9, 0, 0);
+    }
+    let r = round - 1;
+    let k = first_clash(scheme, system, a, b, c, d, r);
+    if k == 0 {
+        return secret_at(system, a, b, c, r);
+    }
+    clash_at(scheme, system, a, b, c, d, r, k - 1)
+}
+
+// The audit of either scheme; scheme 3 has no fourth record, and takes the third in its place.
+fn audit<'a>(
+    scheme: u8,
+    system: &'a [u8],
+    a: &'a [u8],
+    b: &'a [u8],
+    c: &'a [u8],
+    d: &'a [u8],
+) -> Audited
+    ensures { λ o. ⌜ Answers o (auditOf scheme (now (system .entry)) (now (a .entry)) (now (b .entry)) (now (c .entry)) (now (d .entry))) ⌝ }
+{
+    let front = front_refusal(scheme, system, a, b, c, d);
+    if front != 0 {
+        return refused(front, 0, 0);
+    }
+    let rejected = first_rejection(scheme, system, a, b, c, d);
+    if rejected.whose != 0 {
+        return refused(8, rejected.whose, rejected.round);
+    }
+    search(scheme, system, a, b, c, d)
+}
+
+// Audits three records of scheme 3.
+pub fn audit_three<'a>(system: &'a [u8], a: &'a [u8], b: &'a [u8], c: &'a [u8]) -> Audited
+    ensures { λ o. ⌜ Answers o (auditThree (now (system .entry)) (now (a .entry)) (now (b .entry)) (now (c .entry))) ⌝ }
+{
+    audit(3, system, a, b, c, c)
+}
+
+// Audits four records of scheme 5.
+pub fn audit_five<'a>(
+    system: &'a [u8],
+    a: &'a [u8],
+    b: &'a [u8],
+    c: &'a [u8],
+    d: &'a [u8],
+) -> Audited
+    ensures { λ o. ⌜ Answers o (auditFive (now (system .entry)) (now (a .entry)) (now (b .entry)) (now (c .entry)) (now (d .entry))) ⌝ }
+{
+    audit(5, system, a, b, c, d)
+}

@@ -1,0 +1,165 @@
+-- Demand 3's first half: when an audit has a finding, and what a finding is. Said of the records' bytes through the layout of a record and the check of a round;
+-- the definitions by which the audit is computed are not used.
+use Prim.Native.Nat.{ℕ, _+_, _<_}
+use mathlib.Core.Path.{_≡_}
+use mathlib.Core.Bool.{true, false}
+use mathlib.Core.Logic.{_⊎_}
+use mathlib.Core.List.{List, [], _∷_}
+use lib.ListN.{length}
+use Rattle.slices.specs.Slices.{_!_}
+use Rattle.sha256.specs.Sha256.{sha256}
+use Rattle.commitment.specs.declared.Domain.{Domain}
+use Rattle.commitment.specs.Commitment.{hashedString}
+use Rattle.system.specs.System.{qOf, nOf, mOf, F, WellFormedSystem}
+use Rattle.protocol.specs.Rounds.{IsX}
+use Rattle.round.specs.Pieces.{commitment}
+use Rattle.round.specs.ThreePass.{firstNumber, secondNumber, firstString, secondString}
+use Rattle.round.specs.FivePass.{openingFive}
+use Rattle.exchange.specs.Messages.{commitmentsIn, middleIn, replyThreeIn, replyFiveIn}
+use Rattle.record.specs.Record.{WellFormedRecord}
+use Rattle.record.specs.Reader.{headerIn, fieldsIn}
+use Rattle.transcript.specs.Transcript.{keyVector, roundCommitments, roundMiddle, roundChallenge, roundReply, acceptedRound}
+use Rattle.audit.specs.Outcome.{Outcome, secret, clash, refused}
+
+-- ---- when
+
+-- the record b beside the first, a: "the system and the records are well-formed .., the records are for that scheme, the system has their q, n and m, they have equal
+-- header, key and commitments"
+pub record Auditable (scheme : ℕ) (system a b : List ℕ) : Type 0 where
+  pub well-formed : WellFormedRecord b
+  pub for-scheme : headerIn b .scheme ≡ scheme
+  pub has-q : qOf system ≡ headerIn b .q
+  pub has-n : nOf system ≡ headerIn b .n
+  pub has-m : mOf system ≡ headerIn b .m
+  pub same-header : headerIn a ≡ headerIn b
+  pub same-key : fieldsIn a .key ≡ fieldsIn b .key
+  pub same-commitments : fieldsIn a .commitments ≡ fieldsIn b .commitments
+
+-- "every round in each is accepted"
+pub AllAccepted : List ℕ → List ℕ → Type 0
+AllAccepted system b = (r : ℕ) → r < headerIn b .rounds → acceptedRound system b r ≡ true
+
+-- "scheme 3, the three records' challenges are 0, 1, 2 in any order"
+pub FullThree : List ℕ → List ℕ → List ℕ → ℕ → Type 0
+FullThree a b c r = (k : ℕ) → k < 3 → (roundChallenge a r ≡ k) ⊎ ((roundChallenge b r ≡ k) ⊎ (roundChallenge c r ≡ k))
+
+-- "scheme 5, records A, B, C, D have challenges 0, 1, 0, 1, A and B have equal α, t1, e1, so have C and D, and the α of A and of C differ"
+pub record FullFive (a b c d : List ℕ) (r : ℕ) : Type 0 where
+  pub a-challenge : roundChallenge a r ≡ 0
+  pub b-challenge : roundChallenge b r ≡ 1
+  pub c-challenge : roundChallenge c r ≡ 0
+  pub d-challenge : roundChallenge d r ≡ 1
+  pub ab-middle : roundMiddle a r ≡ roundMiddle b r
+  pub cd-middle : roundMiddle c r ≡ roundMiddle d r
+  pub other-alpha : roundMiddle a r ! 0 ≡ roundMiddle c r ! 0 → ⊥
+
+-- ---- in which order
+
+-- x is one of the three records
+pub Among : List ℕ → List ℕ → List ℕ → List ℕ → Type 0
+Among a b c x = (x ≡ a) ⊎ ((x ≡ b) ⊎ (x ≡ c))
+
+-- "The string of the lower challenge stands first"
+pub record OrderThree (a b c : List ℕ) (r k : ℕ) (left right : List ℕ) : Type 0 where
+  pub left-among : Among a b c left
+  pub right-among : Among a b c right
+  pub lower-first : roundChallenge left r < roundChallenge right r
+
+-- "(scheme 5: of the earlier record)": "c0 of A and C, c1 of B and D"
+pub OrderFive : List ℕ → List ℕ → List ℕ → List ℕ → ℕ → ℕ → List ℕ → List ℕ → Type 0
+OrderFive a b c d r k left right = ((k ≡ 0) × (left ≡ a) × (right ≡ c)) ⊎ ((k ≡ 1) × (left ≡ b) × (right ≡ d))
+
+-- ---- the audit of a scheme: its records, the full set in a round, and the order of the two strings of commitment k
+
+pub record Scheme : Type 1 where
+  pub scheme : ℕ
+  pub system : List ℕ
+  pub first : List ℕ
+  pub others : List (List ℕ)
+  pub Full : ℕ → Type 0
+  pub Order : ℕ → ℕ → List ℕ → List ℕ → Type 0
+
+unfoldable pub threePass : List ℕ → List ℕ → List ℕ → List ℕ → Scheme
+threePass system a b c =
+    record { scheme = 3; system = system; first = a; others = b ∷ c ∷ []; Full = FullThree a b c; Order = OrderThree a b c }
+
+unfoldable pub fivePass : List ℕ → List ℕ → List ℕ → List ℕ → List ℕ → Scheme
+fivePass system a b c d =
+    record { scheme = 5; system = system; first = a; others = b ∷ c ∷ d ∷ []; Full = FullFive a b c d; Order = OrderFive a b c d }
+
+-- each of the records
+pub data Each (P : List ℕ → Type 0) : List (List ℕ) → Type 0 where
+  none-left : Each P []
+  each : (b : List ℕ) (bs : List (List ℕ)) → P b → Each P bs → Each P (b ∷ bs)
+
+-- "there is a finding exactly when .."
+pub record Due (t : Scheme) : Type 0 where
+  pub system-well-formed : WellFormedSystem (t .system)
+  pub records-auditable : Each (Auditable (t .scheme) (t .system) (t .first)) (t .first ∷ t .others)
+  pub rounds-accepted : Each (AllAccepted (t .system)) (t .first ∷ t .others)
+  pub round : ℕ
+  pub round-in : round < headerIn (t .first) .rounds
+  pub full : t .Full round
+
+-- ---- what
+
+-- x is the string with which the reply of round r of the record b opens commitment k
+pub data Opens (system b : List ℕ) (r k : ℕ) : List ℕ → Type 0 where
+  first-of-three : headerIn b .scheme ≡ 3 → k ≡ firstNumber (roundChallenge b r) →
+      Opens system b r k (firstString system (keyVector b) (roundChallenge b r) (replyThreeIn (nOf system) (mOf system) (roundReply b r)))
+  second-of-three : headerIn b .scheme ≡ 3 → k ≡ secondNumber (roundChallenge b r) →
+      Opens system b r k (secondString (nOf system) (mOf system) (roundChallenge b r) (replyThreeIn (nOf system) (mOf system) (roundReply b r)))
+  of-five : headerIn b .scheme ≡ 5 → k ≡ roundChallenge b r →
+      Opens system b r k (openingFive system (roundMiddle b r ! 0) (keyVector b) (middleIn (nOf system) (mOf system) (roundMiddle b r)) (roundChallenge b r)
+      (replyFiveIn (nOf system) (roundReply b r)))
+
+-- x is "scheme byte .. the byte k .., 32 bytes ρ, then the vectors"
+pub record HasVectors (scheme k : ℕ) (x vectors : List ℕ) : Type 0 where
+  pub ρ : List ℕ
+  pub ρ-length : length ρ ≡ 32
+  pub hashed : x ≡ hashedString (record { scheme = scheme }) k ρ vectors
+
+-- "one commitment of the round used with two openings whose vectors differ, both hashing to it, in the order that document 01 gives"
+pub record TrueClash (t : Scheme) (k : ℕ) (x y : List ℕ) : Type 0 where
+  pub round : ℕ
+  pub round-in : round < headerIn (t .first) .rounds
+  pub full : t .Full round
+  pub first-full : (r : ℕ) → r < round → t .Full r → ⊥
+  pub left : List ℕ
+  pub right : List ℕ
+  pub order : t .Order round k left right
+  pub left-opens : Opens (t .system) left round k x
+  pub right-opens : Opens (t .system) right round k y
+  pub left-hashes : sha256 x ≡ commitment (commitmentsIn (roundCommitments (t .first) round)) k
+  pub right-hashes : sha256 y ≡ commitment (commitmentsIn (roundCommitments (t .first) round)) k
+  pub left-vectors : List ℕ
+  pub right-vectors : List ℕ
+  pub left-has : HasVectors (t .scheme) k x left-vectors
+  pub right-has : HasVectors (t .scheme) k y right-vectors
+  pub vectors-differ : left-vectors ≡ right-vectors → ⊥
+
+-- 8: "first record, then first round, both given, counted from 1"
+pub data FirstRejected (system : List ℕ) : List (List ℕ) → ℕ → ℕ → Type 0 where
+  rejected-here : (b : List ℕ) (bs : List (List ℕ)) (r : ℕ) → r < headerIn b .rounds → acceptedRound system b r ≡ false →
+      ((j : ℕ) → j < r → acceptedRound system b j ≡ true) → FirstRejected system (b ∷ bs) 1 (r + 1)
+  rejected-later : (b : List ℕ) (bs : List (List ℕ)) (whose round : ℕ) → AllAccepted system b → FirstRejected system bs whose round →
+      FirstRejected system (b ∷ bs) (whose + 1) round
+
+-- an answer is right: "a vector s with F(s) = v", "v is the records' key"; a true clash; and of the refusals 8 alone names a record and a round, the first that is rejected
+pub Right : Scheme → Outcome → Type 0
+Right t (secret s) = IsX (t .system) s × (F (t .system) s ≡ keyVector (t .first))
+Right t (clash k x y) = TrueClash t k x y
+Right t (refused number whose round) =
+    ((number ≡ 8) × FirstRejected (t .system) (t .first ∷ t .others) whose round) ⊎ ((number ≡ 8 → ⊥) × (whose ≡ 0) × (round ≡ 0))
+
+-- "An answer that is no refusal is a finding"
+pub IsFinding : Outcome → Type 0
+IsFinding (secret s) = Unit {0}
+IsFinding (clash k x y) = Unit {0}
+IsFinding (refused number whose round) = ⊥
+
+-- demand 3's first half, of an audit's answer
+pub record Claim (t : Scheme) (o : Outcome) : Type 0 where
+  pub found-when-due : Due t → IsFinding o
+  pub due-when-found : IsFinding o → Due t
+  pub right : Right t o
