@@ -54,10 +54,10 @@ struct Sessions<const COUNT: usize> {
 }
 
 /// What the replies of a full set hold: each commitment's two openings by k, and the shares of s.
-struct FullSet {
-    openings: Vec<[Opening; 2]>,
-    r0: Vec<u8>,
-    r1: Vec<u8>,
+pub struct FullSet {
+    pub openings: Vec<[Opening; 2]>,
+    pub r0: Vec<u8>,
+    pub r1: Vec<u8>,
 }
 
 /// The full set of a round's exchanges, one of each record, if they are one.
@@ -130,7 +130,7 @@ impl<const COUNT: usize> Sessions<COUNT> {
 
 impl FullSet {
     /// The first commitment that was opened to different vectors, whatever the ρ; else the secret.
-    fn finding(self, system: &System) -> Finding {
+    pub fn finding(self, system: &System) -> Finding {
         let mut pairs = self.openings.iter();
         match pairs.find(|[first, second]| first.vectors != second.vectors) {
             Some([first, second]) => Finding::Clash {
@@ -171,7 +171,11 @@ fn are_alike(layouts: &[Layout], records: &[&[u8]]) -> bool {
 
 /// Three passes: the challenges are 0, 1, 2 in any order. A commitment's openings stand in the order
 /// of the challenges.
-fn full_set_of_three(system: &System, v: &[u8], mut round: [&Transcript; 3]) -> Option<FullSet> {
+pub fn full_set_of_three(
+    system: &System,
+    v: &[u8],
+    mut round: [&Transcript; 3],
+) -> Option<FullSet> {
     round.sort_by_key(|exchange| exchange.challenge);
     if round.map(|exchange| exchange.challenge) != [0, 1, 2] {
         return None;
@@ -189,7 +193,7 @@ fn full_set_of_three(system: &System, v: &[u8], mut round: [&Transcript; 3]) -> 
 
 /// Five passes: challenges 0, 1, 0, 1; one α, t1, e1 in a and b, and one in c and d; and another α
 /// there. A commitment's openings stand in the order of the records.
-fn full_set_of_five(system: &System, v: &[u8], round: [&Transcript; 4]) -> Option<FullSet> {
+pub fn full_set_of_five(system: &System, v: &[u8], round: [&Transcript; 4]) -> Option<FullSet> {
     let middles = round.map(|exchange| Middle::read(system, &exchange.middle));
     let [a, b, c, d] = &middles;
     let is_full = round.map(|exchange| exchange.challenge) == [0, 1, 0, 1]
