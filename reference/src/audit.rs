@@ -70,8 +70,9 @@ fn audit<const COUNT: usize>(
     records: [&[u8]; COUNT],
     full_set: FullSetOf<COUNT>,
 ) -> Finding {
-    let result = Sessions::read(scheme, system, records).and_then(|s| s.finding(full_set));
-    result.unwrap_or_else(|refused| Finding::Refused {
+    let sessions = Sessions::read(scheme, system, records);
+    let finding = sessions.and_then(|sessions| sessions.finding(full_set));
+    finding.unwrap_or_else(|refused| Finding::Refused {
         number: refused.refusal.number(),
         record: refused.record,
         round: refused.round,

@@ -11,6 +11,7 @@ use super::session::{header, layout, parts, patterned, places, Holds, Session};
 use crate::random::Generator;
 use crate::record::{Layout, BODIES, HEADER};
 use crate::scheme::{Scheme, SCHEMES};
+use std::slice::from_ref;
 
 pub fn topics(scheme: Scheme) -> Vec<Topic> {
     vec![
@@ -45,8 +46,8 @@ fn bad_records(session: &Session) -> Vec<Piece> {
     let layout = layout(session.header());
     let challenge = places(layout, Holds::Challenge)[0];
     let vectors = parts(layout).into_iter();
-    let vectors = vectors.filter(|part| part.holds == Holds::Elements);
-    let last = vectors.last().expect("a vector").edges()[1];
+    let mut vectors = vectors.filter(|part| part.holds == Holds::Elements);
+    let last = vectors.next_back().expect("a vector").edges()[1];
     let cut = |length| Piece::literal(&bytes[..length]);
     let put = |place, byte| good.clone().patched(place, byte);
     vec![
@@ -82,7 +83,9 @@ fn one_refused(scheme: Scheme) -> Vec<Audit> {
     let good = Audit::of(&sessions);
     let bad = bad_records(&sessions[0]);
     let mut audits = in_first_place(&good, &bad);
-    audits.extend(in_each_place(&good, &chosen(&bad)));
+    let mut others = in_each_place(&good, &chosen(&bad));
+    others.retain(|audit| !audits.contains(audit));
+    audits.extend(others);
     audits
 }
 
@@ -123,7 +126,7 @@ fn other_scheme(scheme: Scheme) -> Vec<Audit> {
     let good = Audit::of(&sessions(131, scheme, 1));
     let session = of_other_scheme(131, scheme);
     let other = Piece::literal(&session.record());
-    let mut audits = in_each_place(&good, &[other.clone()]);
+    let mut audits = in_each_place(&good, from_ref(&other));
     audits.push(good.changed(|audit| audit.records.fill(other)));
     audits.extend(in_first_place(&good, &chosen(&bad_records(&session))));
     audits

@@ -12,6 +12,7 @@ use crate::record::{write, Layout};
 use crate::rounds::Transcript;
 use crate::scheme::Scheme;
 use crate::sha256::DIGEST;
+use std::slice::from_ref;
 
 pub fn topics(scheme: Scheme) -> Vec<Topic> {
     vec![
@@ -149,7 +150,7 @@ fn other_headers(scheme: Scheme) -> Vec<Audit> {
             let mut header = sessions[0].header();
             header[place] = number;
             let other = Piece::literal(&with_header(&sessions[0], header));
-            audits.extend(in_each_place(&good, &[other.clone()]));
+            audits.extend(in_each_place(&good, from_ref(&other)));
             audits.push(good.changed(|audit| audit.records.fill(other)));
         }
     }
