@@ -4,6 +4,7 @@
 //! tuned. A module renders one part of document 01 and names its section. `entries` is the engine
 //! as the outside sees it, refusals included; `vectors` makes the stored test vectors from it.
 
+pub mod audit;
 pub mod commitment;
 pub mod entries;
 pub mod field;

@@ -15,8 +15,13 @@ pub enum Refusal {
     Key,
     /// 6: a record's size, edition, table or length is wrong.
     Record,
-    /// 7: q, n or m of the system differ from the session's or the record's.
+    /// 7: q, n or m of the system differ from the session's or the record's, or audited records
+    /// differ from each other.
     Mismatch,
+    /// 8: a round of an audited record is rejected.
+    Rejected,
+    /// 9: no round has a full set.
+    NoFullSet,
     /// 10: the call is not the one due.
     NotDue,
     /// 11: the session is closed.
@@ -33,6 +38,8 @@ impl Refusal {
             Refusal::Key => 5,
             Refusal::Record => 6,
             Refusal::Mismatch => 7,
+            Refusal::Rejected => 8,
+            Refusal::NoFullSet => 9,
             Refusal::NotDue => 10,
             Refusal::Closed => 11,
         }

@@ -1,5 +1,6 @@
 //! A case: one call with its expected number and outputs.
 
+use super::audited::{Audit, FINDING};
 use super::exchange::{Card, Judgement};
 use super::piece::{encode_number, Piece};
 use super::reading;
@@ -8,12 +9,12 @@ use super::writing::Writing;
 use crate::entries;
 use std::iter::repeat;
 
-/// What every output byte is before a call. It is no field's element, so that an element left
+/// What every output byte is before most calls. It is no field's element, so that an element left
 /// unwritten is seen.
 pub const FILL: u8 = 255;
 
 /// The most bytes that the programs' buffers take: a message, a system, a record or a body of it,
-/// the report's input and text, any other piece.
+/// the report's input and text, any other piece but a finding.
 const MOST_OF_MESSAGE: usize = 66_000;
 const MOST_OF_SYSTEM: usize = 500_000;
 const MOST_OF_RECORD: usize = 131_072;
@@ -60,6 +61,7 @@ pub enum Call {
     Report {
         input: Piece,
     },
+    Audit(Audit),
 }
 
 /// What a call answers: its number and its outputs afterwards.
@@ -91,6 +93,7 @@ impl Call {
             Call::Read { .. } => 9,
             Call::Write(_) => 10,
             Call::Report { .. } => 11,
+            Call::Audit(audit) => audit.kind(),
         }
     }
 
@@ -121,6 +124,7 @@ impl Call {
             Call::Read { record } => reading::answer(record),
             Call::Write(writing) => writing.answer(),
             Call::Report { input } => written(entries::report(&input.expanded()).into_bytes()),
+            Call::Audit(audit) => audit.answer(),
         }
     }
 
@@ -149,6 +153,7 @@ impl Call {
             Call::Read { record } => vec![record.clone()],
             Call::Write(writing) => writing.inputs(),
             Call::Report { input } => vec![input.clone()],
+            Call::Audit(audit) => audit.inputs(),
         }
     }
 
@@ -163,6 +168,12 @@ impl Call {
                 room
             }
             Call::Report { .. } => vec![MOST_OF_INPUT, MOST_OF_TEXT],
+            Call::Audit(audit) => {
+                let mut room = vec![MOST_OF_SYSTEM];
+                room.extend(vec![MOST_OF_RECORD; audit.records.len()]);
+                room.push(FINDING);
+                room
+            }
             _ => vec![MOST_OF_SYSTEM],
         }
     }
@@ -175,9 +186,18 @@ impl Call {
         pieces
     }
 
+    /// What every output byte is before the call. A finding is made anew, also where it is a refusal.
+    fn fill(&self) -> u8 {
+        match self {
+            Call::Audit(_) => 0,
+            _ => FILL,
+        }
+    }
+
     /// The output expected: what was written, or in a refused call the fill, in short form.
     fn expected(&self, number: u8, out: &[u8]) -> Piece {
         match self {
+            Call::Audit(_) => Piece::ending_with(out, &Piece::byte(0)),
             _ if number != 0 => Piece::repeated(&[FILL], out.len()),
             Call::Write(writing) => Piece::ending_with(out, &writing.exchanges),
             _ => Piece::literal(out),
@@ -187,7 +207,7 @@ impl Call {
     /// Appends the case to a file: kind, number, fill, the inputs, the outputs expected.
     fn encode(&self, file: &mut Vec<u8>) {
         let answer = self.answer();
-        file.extend([self.kind(), answer.number, FILL]);
+        file.extend([self.kind(), answer.number, self.fill()]);
         let room = self.room().into_iter().chain(repeat(MOST_OF_OTHERS));
         for (piece, most) in self.pieces(&answer).iter().zip(room) {
             assert!(piece.length() <= most, "room for a piece");

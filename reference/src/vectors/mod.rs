@@ -2,6 +2,11 @@
 //!
 //! The format is documented in README.md. Expected answers are those of `entries` and `rounds`.
 
+pub mod audit_faults;
+pub mod audit_forged;
+pub mod audit_rejected;
+pub mod audited;
+pub mod auditing;
 pub mod calls;
 pub mod case;
 pub mod exchange;
@@ -40,6 +45,7 @@ pub fn files() -> Vec<ProgramFile> {
         file("record_vectors", &record_groups()),
         file("report_vectors", &reporting::groups()),
         sessions::file(),
+        file("audit_vectors", &auditing::groups()),
     ]
 }
 

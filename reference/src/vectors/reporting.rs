@@ -97,7 +97,7 @@ fn counts(scheme: Scheme) -> Vec<Vec<u8>> {
 }
 
 /// The same with these rounds changed.
-fn spoiled(session: &Session, rounds: &[usize], spoil: fn(&mut Transcript)) -> Session {
+pub fn spoiled(session: &Session, rounds: &[usize], spoil: fn(&mut Transcript)) -> Session {
     let mut session = session.clone();
     for &round in rounds {
         spoil(&mut session.rounds[round]);
@@ -106,13 +106,13 @@ fn spoiled(session: &Session, rounds: &[usize], spoil: fn(&mut Transcript)) -> S
 }
 
 /// A bit of the reply's last ρ, which every challenge opens.
-fn spoil_rho(round: &mut Transcript) {
+pub fn spoil_rho(round: &mut Transcript) {
     let last = round.reply.len() - 1;
     round.reply[last] ^= 1;
 }
 
 /// The reply's first element, which every challenge hashes: 0, or 1 if it is 0.
-fn spoil_element(round: &mut Transcript) {
+pub fn spoil_element(round: &mut Transcript) {
     round.reply[0] = u8::from(round.reply[0] == 0);
 }
 

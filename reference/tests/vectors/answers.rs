@@ -1,7 +1,8 @@
 //! Every case run: it answers as it says.
 
-use crate::sessions;
 use crate::stored::{groups, made, Case};
+use crate::{audits, sessions};
+use reference::audit::{audit_five, audit_three};
 use reference::entries::{self, Simulate, Write};
 use reference::rounds::{self, Transcript};
 use reference::scheme::Scheme;
@@ -37,10 +38,11 @@ impl Case {
                 entries::read(&inputs[0], out.try_into().expect("30 bytes"))
             }
             10 => self.write(&mut outs[0]),
-            _ => {
+            11 => {
                 outs[0].copy_from_slice(entries::report(&inputs[0]).as_bytes());
                 0
             }
+            _ => self.audit(&mut outs[0]),
         }
     }
 
@@ -85,6 +87,17 @@ impl Case {
         })
     }
 
+    fn audit(&self, out: &mut [u8]) -> u8 {
+        let finding = match &self.inputs[..] {
+            [system, a, b, c] => audit_three(system, a, b, c),
+            [system, a, b, c, d] => audit_five(system, a, b, c, d),
+            _ => panic!("three records or four"),
+        };
+        let (number, bytes) = audits::laid_out(&finding);
+        out.copy_from_slice(&bytes);
+        number
+    }
+
     pub fn system(&self) -> System {
         System::read(&self.inputs[0]).expect("a well-formed system")
     }
@@ -112,7 +125,7 @@ fn every_case_answers_as_it_says() {
     for file in made().iter().filter(of_single_calls) {
         let mut report = String::new();
         let mut total = 0;
-        let mut seen = [0; 8];
+        let mut seen = [0; 10];
         for (name, cases) in groups(file) {
             for case in &cases {
                 assert!(case.agrees(), "{}: a case of {name}", file.program);
@@ -124,7 +137,7 @@ fn every_case_answers_as_it_says() {
         }
         report += &format!("total: {total} cases, {total} agree\n");
         assert_eq!(report, file.stdout);
-        let numbers: Vec<usize> = (0..8).filter(|&number| seen[number] > 0).collect();
+        let numbers: Vec<usize> = (0..10).filter(|&number| seen[number] > 0).collect();
         assert_eq!(numbers, numbers_of(file.program), "{}", file.program);
     }
 }
@@ -138,6 +151,7 @@ fn numbers_of(program: &str) -> &[usize] {
         "round_vectors" => &[0, 1],
         "simulator_vectors" => &[0, 1, 2, 3, 4],
         "record_vectors" => &[0, 1, 2, 3, 4, 6],
+        "audit_vectors" => &[0, 1, 2, 3, 4, 6, 7, 8, 9],
         _ => &[0],
     }
 }

@@ -1,7 +1,8 @@
 //! The vector files, read back by a reader of their own: every case is whole and answers as it
-//! says; judges and readers that are wrong in a known way are told.
+//! says; judges, readers and audits that are wrong in a known way are told.
 
 mod answers;
+mod audits;
 mod judges;
 mod records;
 mod reports;

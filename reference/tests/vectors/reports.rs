@@ -30,7 +30,7 @@ fn input_refusal(input: &[u8]) -> u8 {
 }
 
 /// The rounds of a record, with the scheme that judges them and v.
-fn session(record: &[u8]) -> (Scheme, &[u8], Vec<Transcript>) {
+pub fn session(record: &[u8]) -> (Scheme, &[u8], Vec<Transcript>) {
     let header = [1, 2, 3, 4, 5].map(|place| usize::from(record[place]));
     let [scheme, _, n, m, rounds] = header;
     let [key, commitments, exchanges] = lengths(header);
