@@ -1,0 +1,152 @@
+-- The full set of a round as it is computed and as document 01 says it. Assumes nothing.
+use Prim.Native.Nat.{ℕ, zero, suc, _<_}
+use mathlib.Core.Path.{_≡_, refl, sym, ap, _∙_}
+use mathlib.Core.Bool.{Bool, true, false, not, _&&_}
+use mathlib.Core.Logic.{_⊎_, inl, inr, ⊎-elim}
+use mathlib.Core.List.{List}
+use native.Mathlib.Omega.{arith}
+use borrow.Author.Tests.{eqb-true, eqb-false, eq-eqb, ne-eqb, not-true}
+use lib.Dec.{eqb}
+use Rattle.slices.specs.Slices.{_!_, same}
+use Rattle.slices.proofs.Sameness.{and-left, and-right, same-true, same-by}
+use Rattle.transcript.specs.Transcript.{roundMiddle, roundChallenge}
+use Rattle.full_set.specs.FullSet.{answering, answered, fullThree, askedBoth, fullFive, fullSet}
+use Rattle.findings.specs.Findings.{FullThree, FullFive, Among}
+
+pub both : (x y : Bool) → x ≡ true → y ≡ true → (x && y) ≡ true
+both x y e f = rw (e, f)
+
+-- ---- three passes
+
+module _ (a b c : List ℕ) (r k : ℕ) where
+  -- one of the records has the challenge
+  abbrev Asked : Type 0
+  Asked = (roundChallenge a r ≡ k) ⊎ ((roundChallenge b r ≡ k) ⊎ (roundChallenge c r ≡ k))
+
+  -- it is one of the three
+  pub answering-among : Among a b c (answering a b c r k)
+  unfolding answering
+  answering-among = go (eqb (roundChallenge a r) k) (eqb (roundChallenge b r) k) refl refl
+    where
+      go : (ta tb : Bool) → eqb (roundChallenge a r) k ≡ ta → eqb (roundChallenge b r) k ≡ tb → Among a b c (answering a b c r k)
+      go true tb ea eb = inl (simp ea)
+      go false true ea eb = inr (inl (simp (ea, eb)))
+      go false false ea eb = inr (inr (simp (ea, eb)))
+
+  asked-when-answered : answered a b c r k ≡ true → Asked
+  unfolding answered answering
+  asked-when-answered = go (eqb (roundChallenge a r) k) (eqb (roundChallenge b r) k) refl refl
+    where
+      go : (ta tb : Bool) → eqb (roundChallenge a r) k ≡ ta → eqb (roundChallenge b r) k ≡ tb → answered a b c r k ≡ true → Asked
+      go true tb ea eb e = inl (eqb-true _ _ ea)
+      go false true ea eb e = inr (inl (eqb-true _ _ eb))
+      go false false ea eb e = inr (inr (eqb-true _ _ (simp (ea, eb) at e)))
+
+  answered-when-asked : Asked → answered a b c r k ≡ true
+  unfolding answered answering
+  answered-when-asked = go (eqb (roundChallenge a r) k) (eqb (roundChallenge b r) k) refl refl
+    where
+      go : (ta tb : Bool) → eqb (roundChallenge a r) k ≡ ta → eqb (roundChallenge b r) k ≡ tb → Asked → answered a b c r k ≡ true
+      go true tb ea eb s = simp ea
+      go false true ea eb s = simp (ea, eb)
+      go false false ea eb s =
+          let last : roundChallenge c r ≡ k =
+          ⊎-elim (λ (e : roundChallenge a r ≡ k). absurd (eqb-false _ _ ea e))
+          (λ (t : (roundChallenge b r ≡ k) ⊎ (roundChallenge c r ≡ k)).
+          ⊎-elim (λ (e : roundChallenge b r ≡ k). absurd (eqb-false _ _ eb e)) (λ (e : roundChallenge c r ≡ k). e) t) s
+          in
+          simp (ea, eb, eq-eqb (roundChallenge c r) k last)
+
+-- the record that answers challenge k has it
+pub answers : (a b c : List ℕ) (r k : ℕ) → answered a b c r k ≡ true → roundChallenge (answering a b c r k) r ≡ k
+unfolding answered
+answers a b c r k e = eqb-true _ _ e
+
+-- each of the three challenges is answered
+pub record AnsweredAll (a b c : List ℕ) (r : ℕ) : Type 0 where
+  pub zero-is : answered a b c r 0 ≡ true
+  pub one-is : answered a b c r 1 ≡ true
+  pub two-is : answered a b c r 2 ≡ true
+
+pub answered-all : (a b c : List ℕ) (r : ℕ) → fullThree a b c r ≡ true → AnsweredAll a b c r
+unfolding fullThree
+answered-all a b c r e =
+    let others = answered a b c r 1 && answered a b c r 2 in
+    let rest = and-right (answered a b c r 0) others e in
+    record { zero-is = and-left (answered a b c r 0) others e; one-is = and-left (answered a b c r 1) (answered a b c r 2) rest; two-is = and-right (answered a b c r 1) (answered a b c r 2) rest }
+
+pub three-full : (a b c : List ℕ) (r : ℕ) → fullThree a b c r ≡ true → FullThree a b c r
+three-full a b c r e = go
+  where
+    all : AnsweredAll a b c r
+    all = answered-all a b c r e
+
+    go : (k : ℕ) → k < 3 → (roundChallenge a r ≡ k) ⊎ ((roundChallenge b r ≡ k) ⊎ (roundChallenge c r ≡ k))
+    go zero h = asked-when-answered a b c r 0 (all .zero-is)
+    go (suc zero) h = asked-when-answered a b c r 1 (all .one-is)
+    go (suc (suc zero)) h = asked-when-answered a b c r 2 (all .two-is)
+    go (suc (suc (suc k))) h = absurd (omega arith)
+
+pub full-three : (a b c : List ℕ) (r : ℕ) → FullThree a b c r → fullThree a b c r ≡ true
+unfolding fullThree
+full-three a b c r full =
+    both _ _ (answered-when-asked a b c r 0 (full 0 (omega arith)))
+    (both _ _ (answered-when-asked a b c r 1 (full 1 (omega arith))) (answered-when-asked a b c r 2 (full 2 (omega arith))))
+
+-- ---- five passes
+
+not-false : (t : Bool) → t ≡ false → not t ≡ true
+not-false t e = ap not e
+
+-- challenges 0 and 1 after the same middle
+record Both (x y : List ℕ) (r : ℕ) : Type 0 where
+  zero-asked : roundChallenge x r ≡ 0
+  one-asked : roundChallenge y r ≡ 1
+  same-middle : roundMiddle x r ≡ roundMiddle y r
+
+asked-both : (x y : List ℕ) (r : ℕ) → askedBoth x y r ≡ true → Both x y r
+unfolding askedBoth
+asked-both x y r e =
+    let zero-test = eqb (roundChallenge x r) 0 in
+    let one-test = eqb (roundChallenge y r) 1 in
+    let middle-test = same (roundMiddle x r) (roundMiddle y r) in
+    let rest = and-right zero-test (one-test && middle-test) e in
+    record {
+      zero-asked = eqb-true _ _ (and-left zero-test (one-test && middle-test) e);
+      one-asked = eqb-true _ _ (and-left one-test middle-test rest);
+      same-middle = same-true _ _ (and-right one-test middle-test rest);
+    }
+
+pub five-full : (a b c d : List ℕ) (r : ℕ) → fullFive a b c d r ≡ true → FullFive a b c d r
+unfolding fullFive
+five-full a b c d r e =
+    let alpha-test = not (eqb (roundMiddle a r ! 0) (roundMiddle c r ! 0)) in
+    let rest = and-right (askedBoth a b r) (askedBoth c d r && alpha-test) e in
+    let ab = asked-both a b r (and-left (askedBoth a b r) (askedBoth c d r && alpha-test) e) in
+    let cd = asked-both c d r (and-left (askedBoth c d r) alpha-test rest) in
+    record {
+      a-challenge = ab .zero-asked;
+      b-challenge = ab .one-asked;
+      c-challenge = cd .zero-asked;
+      d-challenge = cd .one-asked;
+      ab-middle = ab .same-middle;
+      cd-middle = cd .same-middle;
+      other-alpha = eqb-false _ _ (not-true _ (and-right (askedBoth c d r) alpha-test rest));
+    }
+
+pub full-five : (a b c d : List ℕ) (r : ℕ) → FullFive a b c d r → fullFive a b c d r ≡ true
+unfolding fullFive askedBoth
+full-five a b c d r k =
+    both _ _ (both _ _ (eq-eqb _ _ (k .a-challenge)) (both _ _ (eq-eqb _ _ (k .b-challenge)) (same-by _ _ (k .ab-middle))))
+    (both _ _ (both _ _ (eq-eqb _ _ (k .c-challenge)) (both _ _ (eq-eqb _ _ (k .d-challenge)) (same-by _ _ (k .cd-middle))))
+    (not-false _ (ne-eqb _ _ (k .other-alpha))))
+
+-- ---- the scheme chooses
+
+pub set-three : (a b c d : List ℕ) (r : ℕ) → fullSet 3 a b c d r ≡ fullThree a b c r
+unfolding fullSet
+set-three a b c d r = refl
+
+pub set-five : (a b c d : List ℕ) (r : ℕ) → fullSet 5 a b c d r ≡ fullFive a b c d r
+unfolding fullSet
+set-five a b c d r = refl

@@ -1,0 +1,3 @@
+pub mod FullSets
+pub mod Strings
+pub mod Elements
