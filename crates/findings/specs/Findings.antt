@@ -36,11 +36,11 @@ pub record Auditable (scheme : ℕ) (system a b : List ℕ) : Type 0 where
   pub same-commitments : fieldsIn a .commitments ≡ fieldsIn b .commitments
 
 -- "every round in each is accepted"
-pub AllAccepted : List ℕ → List ℕ → Type 0
+abbrev pub AllAccepted : List ℕ → List ℕ → Type 0
 AllAccepted system b = (r : ℕ) → r < headerIn b .rounds → acceptedRound system b r ≡ true
 
 -- "scheme 3, the three records' challenges are 0, 1, 2 in any order"
-pub FullThree : List ℕ → List ℕ → List ℕ → ℕ → Type 0
+abbrev pub FullThree : List ℕ → List ℕ → List ℕ → ℕ → Type 0
 FullThree a b c r = (k : ℕ) → k < 3 → (roundChallenge a r ≡ k) ⊎ ((roundChallenge b r ≡ k) ⊎ (roundChallenge c r ≡ k))
 
 -- "scheme 5, records A, B, C, D have challenges 0, 1, 0, 1, A and B have equal α, t1, e1, so have C and D, and the α of A and of C differ"
@@ -56,7 +56,7 @@ pub record FullFive (a b c d : List ℕ) (r : ℕ) : Type 0 where
 -- ---- in which order
 
 -- x is one of the three records
-pub Among : List ℕ → List ℕ → List ℕ → List ℕ → Type 0
+abbrev pub Among : List ℕ → List ℕ → List ℕ → List ℕ → Type 0
 Among a b c x = (x ≡ a) ⊎ ((x ≡ b) ⊎ (x ≡ c))
 
 -- "The string of the lower challenge stands first"
@@ -66,7 +66,7 @@ pub record OrderThree (a b c : List ℕ) (r k : ℕ) (left right : List ℕ) : T
   pub lower-first : roundChallenge left r < roundChallenge right r
 
 -- "(scheme 5: of the earlier record)": "c0 of A and C, c1 of B and D"
-pub OrderFive : List ℕ → List ℕ → List ℕ → List ℕ → ℕ → ℕ → List ℕ → List ℕ → Type 0
+abbrev pub OrderFive : List ℕ → List ℕ → List ℕ → List ℕ → ℕ → ℕ → List ℕ → List ℕ → Type 0
 OrderFive a b c d r k left right = ((k ≡ 0) × (left ≡ a) × (right ≡ c)) ⊎ ((k ≡ 1) × (left ≡ b) × (right ≡ d))
 
 -- ---- the audit of a scheme: its records, the full set in a round, and the order of the two strings of commitment k
@@ -146,14 +146,14 @@ pub data FirstRejected (system : List ℕ) : List (List ℕ) → ℕ → ℕ →
       FirstRejected system (b ∷ bs) (whose + 1) round
 
 -- an answer is right: "a vector s with F(s) = v", "v is the records' key"; a true clash; and of the refusals 8 alone names a record and a round, the first that is rejected
-pub Right : Scheme → Outcome → Type 0
+unfoldable pub Right : Scheme → Outcome → Type 0
 Right t (secret s) = IsX (t .system) s × (F (t .system) s ≡ keyVector (t .first))
 Right t (clash k x y) = TrueClash t k x y
 Right t (refused number whose round) =
     ((number ≡ 8) × FirstRejected (t .system) (t .first ∷ t .others) whose round) ⊎ ((number ≡ 8 → ⊥) × (whose ≡ 0) × (round ≡ 0))
 
 -- "An answer that is no refusal is a finding"
-pub IsFinding : Outcome → Type 0
+unfoldable pub IsFinding : Outcome → Type 0
 IsFinding (secret s) = Unit {0}
 IsFinding (clash k x y) = Unit {0}
 IsFinding (refused number whose round) = ⊥
