@@ -1,3 +1,5 @@
+pub mod Comparing
+pub mod Rejecting
 pub mod FullSets
 pub mod Strings
 pub mod Elements

@@ -1,0 +1,150 @@
+-- What is refused before the rounds are judged, against the records: nothing exactly where they are to be audited, and no number above 7. Assumes nothing.
+use Prim.Native.Nat.{ℕ, zero, suc, _≤_}
+use mathlib.Core.Path.{_≡_, sym, ap, _∙_}
+use mathlib.Core.Bool.{Bool, true, false, cond}
+use mathlib.Core.List.{List}
+use native.Mathlib.Omega.{arith}
+use lib.Dec.{T, leb, eqb, leb→le}
+use lib.ListN.{take}
+use lib.Seq.{getD-take}
+use borrow.Author.Tests.{eq-eqb}
+use Rattle.slices.specs.Slices.{same}
+use Rattle.slices.proofs.Sameness.{same-true, same-by, same-refl}
+use Rattle.refusal.specs.Refusal.{unless, _orElse_, firstOf}
+use Rattle.refusal.proofs.Refusals.{first-zero, later-zero, test-holds, equal-holds, both-zero, unless-holds}
+use Rattle.system.specs.System.{hasSizes, systemRefusal}
+use Rattle.system.proofs.SystemLayout.{has-sizes, sizes-has}
+use Rattle.record.specs.declared.layout.Header.{Header}
+use Rattle.record.specs.declared.form.Check.the-variants.{FileOrder}
+use Rattle.record.specs.Record.{head, written, WellFormedRecord}
+use Rattle.record.specs.Form.{exchangeRefusal, exchangesRefusal}
+use Rattle.record.specs.Reader.{headerIn, fieldsIn, recordRefusal}
+use Rattle.record.proofs.RecordLayout.{well-formed, not-refused}
+use Rattle.comparable.specs.Comparable.{auditedRefusal, fitRefusal, differenceRefusal, frontRefusal}
+use Rattle.findings.specs.Findings.{Auditable}
+
+-- ---- the six bytes before the table are the header
+
+header-first : (b : List ℕ) → headerIn (take 6 b) ≡ headerIn b
+unfolding headerIn
+header-first b =
+    λ i. record {
+      scheme = getD-take 6 b 1 0 (omega arith) i;
+      q = getD-take 6 b 2 0 (omega arith) i;
+      n = getD-take 6 b 3 0 (omega arith) i;
+      m = getD-take 6 b 4 0 (omega arith) i;
+      rounds = getD-take 6 b 5 0 (omega arith) i;
+    }
+
+same-headers : (a b : List ℕ) → take 6 a ≡ take 6 b → headerIn a ≡ headerIn b
+same-headers a b e = sym (header-first a) ∙ ap headerIn e ∙ header-first b
+
+first-header : (b : List ℕ) → WellFormedRecord b → take 6 b ≡ head (headerIn b)
+unfolding written head headerIn
+first-header b w = rw (w .laid-out)
+
+-- ---- both ways
+
+module _ (scheme : ℕ) (system a b : List ℕ) where
+  pub auditable : auditedRefusal scheme b ≡ 0 → fitRefusal system a ≡ 0 → differenceRefusal a b ≡ 0 → Auditable scheme system a b
+  unfolding auditedRefusal fitRefusal differenceRefusal
+  auditable read fit alike =
+      let header = same-headers a b (same-true _ _ (test-holds (same (take 6 a) (take 6 b)) 7 tt (first-zero _ _ alike))) in
+      let sizes = has-sizes system _ _ _ (test-holds (hasSizes system (headerIn a .q) (headerIn a .n) (headerIn a .m)) 7 tt fit) in
+      let bodies = later-zero _ _ alike in
+      record {
+        well-formed = well-formed b (first-zero _ _ read);
+        for-scheme = equal-holds (headerIn b .scheme) scheme 1 tt (later-zero _ _ read);
+        has-q = sizes .0 ∙ ap (λ (h : Header). h .q) header;
+        has-n = sizes .1 ∙ ap (λ (h : Header). h .n) header;
+        has-m = sizes .2 ∙ ap (λ (h : Header). h .m) header;
+        same-header = header;
+        same-key = same-true _ _ (test-holds (same (fieldsIn a .key) (fieldsIn b .key)) 7 tt (first-zero _ _ bodies));
+        same-commitments = same-true _ _ (test-holds (same (fieldsIn a .commitments) (fieldsIn b .commitments)) 7 tt (later-zero _ _ bodies));
+      }
+
+  pub readable : Auditable scheme system a b → auditedRefusal scheme b ≡ 0
+  unfolding auditedRefusal
+  readable k = both-zero _ _ (not-refused b (k .well-formed)) (unless-holds _ 1 (eq-eqb (headerIn b .scheme) scheme (k .for-scheme)))
+
+  pub alike : Auditable scheme system a a → Auditable scheme system a b → differenceRefusal a b ≡ 0
+  unfolding differenceRefusal
+  alike first k =
+      let front = first-header a (first .well-formed) ∙ ap head (k .same-header) ∙ sym (first-header b (k .well-formed)) in
+      both-zero _ _ (unless-holds _ 7 (same-by _ _ front))
+      (both-zero _ _ (unless-holds _ 7 (same-by _ _ (k .same-key))) (unless-holds _ 7 (same-by _ _ (k .same-commitments))))
+
+pub fitting : (scheme : ℕ) (system a : List ℕ) → Auditable scheme system a a → fitRefusal system a ≡ 0
+unfolding fitRefusal
+fitting scheme system a k = unless-holds _ 7 (sizes-has system _ _ _ (k .has-q) (k .has-n) (k .has-m))
+
+pub alike-itself : (a : List ℕ) → differenceRefusal a a ≡ 0
+unfolding differenceRefusal
+alike-itself a =
+    both-zero _ _ (unless-holds _ 7 (same-refl (take 6 a)))
+    (both-zero _ _ (unless-holds _ 7 (same-refl (fieldsIn a .key))) (unless-holds _ 7 (same-refl (fieldsIn a .commitments))))
+
+-- ---- the numbers
+
+choice-number : (t : Bool) (x y : ℕ) → x ≤ 7 → y ≤ 7 → cond t x y ≤ 7
+choice-number true x y hx hy = hx
+choice-number false x y hx hy = hy
+
+unless-number : (t : Bool) (k : ℕ) → T (leb k 7) → unless t k ≤ 7
+unfolding unless
+unless-number t k h = choice-number t 0 k (omega arith) (leb→le k 7 h)
+
+orElse-number : (x y : ℕ) → x ≤ 7 → y ≤ 7 → (x orElse y) ≤ 7
+unfolding _orElse_
+orElse-number x y hx hy = choice-number (eqb x 0) y x hy hx
+
+firstOf-number : (n : ℕ) (f : ℕ → ℕ) → ((i : ℕ) → f i ≤ 7) → firstOf n f ≤ 7
+unfolding firstOf
+firstOf-number zero f each = omega arith
+firstOf-number (suc n) f each = orElse-number _ _ (firstOf-number n f each) (each n)
+
+system-number : (b : List ℕ) → systemRefusal b ≤ 7
+unfolding systemRefusal
+system-number b =
+    orElse-number _ _ (unless-number _ 2 tt) (orElse-number _ _ (unless-number _ 1 tt) (orElse-number _ _ (unless-number _ 2 tt) (unless-number _ 3 tt)))
+
+exchange-number : (h : Header) (x : List ℕ) → exchangeRefusal FileOrder h x ≤ 7
+unfolding exchangeRefusal
+exchange-number h x = orElse-number _ _ (unless-number _ 3 tt) (orElse-number _ _ (unless-number _ 4 tt) (unless-number _ 3 tt))
+
+exchanges-number : (h : Header) (exchanges : List ℕ) → exchangesRefusal FileOrder h exchanges ≤ 7
+unfolding exchangesRefusal
+exchanges-number h exchanges = firstOf-number (h .rounds) _ (λ r. exchange-number h _)
+
+record-number : (b : List ℕ) → recordRefusal b ≤ 7
+unfolding recordRefusal
+record-number b =
+    orElse-number _ _ (unless-number _ 6 tt)
+    (orElse-number _ _ (unless-number _ 6 tt)
+    (orElse-number _ _ (unless-number _ 1 tt)
+    (orElse-number _ _ (unless-number _ 6 tt)
+    (orElse-number _ _ (unless-number _ 6 tt)
+    (orElse-number _ _ (unless-number _ 3 tt) (exchanges-number _ _))))))
+
+audited-number : (scheme : ℕ) (b : List ℕ) → auditedRefusal scheme b ≤ 7
+unfolding auditedRefusal
+audited-number scheme b = orElse-number _ _ (record-number b) (unless-number _ 1 tt)
+
+fit-number : (system b : List ℕ) → fitRefusal system b ≤ 7
+unfolding fitRefusal
+fit-number system b = unless-number _ 7 tt
+
+difference-number : (a b : List ℕ) → differenceRefusal a b ≤ 7
+unfolding differenceRefusal
+difference-number a b = orElse-number _ _ (unless-number _ 7 tt) (orElse-number _ _ (unless-number _ 7 tt) (unless-number _ 7 tt))
+
+pub front-number : (scheme : ℕ) (system a b c d : List ℕ) → frontRefusal scheme system a b c d ≤ 7
+unfolding frontRefusal
+front-number scheme system a b c d =
+    orElse-number _ _ (system-number system)
+    (orElse-number _ _ (audited-number scheme a)
+    (orElse-number _ _ (audited-number scheme b)
+    (orElse-number _ _ (audited-number scheme c)
+    (orElse-number _ _ (audited-number scheme d)
+    (orElse-number _ _ (fit-number system a)
+    (orElse-number _ _ (difference-number a b) (orElse-number _ _ (difference-number a c) (difference-number a d))))))))
