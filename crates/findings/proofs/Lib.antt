@@ -3,3 +3,4 @@ pub mod Rejecting
 pub mod FullSets
 pub mod Strings
 pub mod Elements
+pub mod Secrets
