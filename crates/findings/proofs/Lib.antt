@@ -4,3 +4,5 @@ pub mod FullSets
 pub mod Strings
 pub mod Elements
 pub mod Secrets
+pub mod Search
+pub mod Audits

@@ -34,9 +34,10 @@ same-held n x y hx hy e =
     hx ∙ vector-cong n _ _ (λ i h l. sym (getD-take n x i 0 h) ∙ ap (λ (k : List ℕ). k ! i) e ∙ getD-take n y i 0 h) ∙ sym hy
 
 append-split : (p q s t : List ℕ) → length p ≡ length q → p ++ s ≡ q ++ t → (p ≡ q) × (s ≡ t)
-append-split p q s t long e =
-    (sym (take-append-seam p s) ∙ ap₂ (λ (n : ℕ) (l : List ℕ). take n l) long e ∙ take-append-seam q t,
-      sym (drop-append-seam p s) ∙ ap₂ (λ (n : ℕ) (l : List ℕ). drop n l) long e ∙ drop-append-seam q t)
+append-split p q s t long e = (
+  sym (take-append-seam p s) ∙ ap₂ (λ (n : ℕ) (l : List ℕ). take n l) long e ∙ take-append-seam q t,
+  sym (drop-append-seam p s) ∙ ap₂ (λ (n : ℕ) (l : List ℕ). drop n l) long e ∙ drop-append-seam q t,
+)
 
 -- the first vector, and what stands behind it
 split-vector : (n : ℕ) (x y s t : List ℕ) → n ≤ 96 → Held n x → Held n y → take n x ++ s ≡ take n y ++ t → (x ≡ y) × (s ≡ t)
@@ -145,17 +146,17 @@ module _ (system a z o t : List ℕ) (r : ℕ) (good : systemRefusal system ≡ 
       let one-is = ko .for-scheme in
       let two-is = kt .for-scheme in
       let p0 = split-two n m _ _ _ _ hn (ho .x-held) (ht .x-held) (map .groupY .sub-is _ _ .held) (map .groupY .add-is _ _ .held)
-          (sym (one-first system o r hn hm one-is asked-o) ∙ c0 ∙ two-first system t r hn hm two-is asked-t)
+      (sym (one-first system o r hn hm one-is asked-o) ∙ c0 ∙ two-first system t r hn hm two-is asked-t)
       in
       let p1 = split-two n m _ _ _ _ hn (map .groupX .sub-is _ _ .held) (ht .y-held) (map .groupY .sub-is _ _ .held) (ht .z-held)
-          (sym (zero-first system z r hn hm zero-is asked-z) ∙ c1 ∙ two-second system t r hn hm two-is asked-t)
+      (sym (zero-first system z r hn hm zero-is asked-z) ∙ c1 ∙ two-second system t r hn hm two-is asked-t)
       in
       let p2 = split-two n m _ _ _ _ hn (hz .y-held) (ho .y-held) (hz .z-held) (ho .z-held)
-          (sym (zero-second system z r hn hm zero-is asked-z) ∙ c2 ∙ one-second system o r hn hm one-is asked-o)
+      (sym (zero-second system z r hn hm zero-is asked-z) ∙ c2 ∙ one-second system o r hn hm one-is asked-o)
       in
       let agree : AgreeThree (mapOf system) (keyVector o) (replyIn system z r .x) (replyIn system z r .y) (replyIn system z r .z)
-          (replyIn system o r .x) (replyIn system o r .y) (replyIn system o r .z) (replyIn system t r .x) (replyIn system t r .y) (replyIn system t r .z) =
-          record { c0-r = p0 .0; c0-mask = p0 .1; c1-t = p1 .0; c1-e = p1 .1; c2-t = p2 .0; c2-e = p2 .1 }
+      (replyIn system o r .x) (replyIn system o r .y) (replyIn system o r .z) (replyIn system t r .x) (replyIn system t r .y) (replyIn system t r .z) =
+      record { c0-r = p0 .0; c0-mask = p0 .1; c1-t = p1 .0; c1-e = p1 .1; c2-t = p2 .0; c2-e = p2 .1 }
       in
       ap₂ (λ (p q : List ℕ). F system (addV (opsOf system) n p q)) (first-x system z r) (first-x system o r) ∙
       soundness-three system good (keyVector o) _ _ _ _ _ _ _ _ _ (v-is 3 system a o good ko) (subst (IsX system) (first-x system z r) (x-is 3 system a z good kz r within)) agree ∙
@@ -198,16 +199,16 @@ module _ (system a b c d : List ℕ) (r : ℕ) (good : systemRefusal system ≡ 
       let map = quadratic-map system good in
       let v = keyVector a in
       let p0 = split-vector n _ _ _ _ hn (x-held-five system a r) (x-held-five system c r)
-          (sym (zero-vectors system a r hn hm (ka .for-scheme) (full .a-challenge)) ∙ c0 ∙ zero-vectors system c r hn hm (kc .for-scheme) (full .c-challenge))
+      (sym (zero-vectors system a r hn hm (ka .for-scheme) (full .a-challenge)) ∙ c0 ∙ zero-vectors system c r hn hm (kc .for-scheme) (full .c-challenge))
       in
       let q0 = split-two n m _ _ _ _ hn (map .groupX .sub-is _ _ .held) (map .groupX .sub-is _ _ .held) (map .groupY .sub-is _ _ .held) (map .groupY .sub-is _ _ .held) (p0 .1) in
       let p1 = split-two n m _ _ _ _ hn (x-held-five system b r) (x-held-five system d r) (map .groupY .sub-is _ _ .held) (map .groupY .sub-is _ _ .held)
-          (sym (one-with system b v (roundMiddle a r) r hn hm (kb .for-scheme) (full .b-challenge) (same-v 5 system a b kb) (full .ab-middle)) ∙ c1 ∙
-          one-with system d v (roundMiddle c r) r hn hm (kd .for-scheme) (full .d-challenge) (same-v 5 system a d kd) (full .cd-middle))
+      (sym (one-with system b v (roundMiddle a r) r hn hm (kb .for-scheme) (full .b-challenge) (same-v 5 system a b kb) (full .ab-middle)) ∙ c1 ∙
+      one-with system d v (roundMiddle c r) r hn hm (kd .for-scheme) (full .d-challenge) (same-v 5 system a d kd) (full .cd-middle))
       in
       let agree : AgreeFive (mapOf system) v (roundMiddle a r ! 0) (sentIn system a r .t1) (sentIn system a r .e1) (replyInFive system a r .x) (replyInFive system b r .x)
-          (roundMiddle c r ! 0) (sentIn system c r .t1) (sentIn system c r .e1) (replyInFive system c r .x) (replyInFive system d r .x) =
-          record { c0-r = p0 .0; c0-t = q0 .0; c0-e = q0 .1; c1-r = p1 .0; c1-mask = p1 .1 }
+      (roundMiddle c r ! 0) (sentIn system c r .t1) (sentIn system c r .e1) (replyInFive system c r .x) (replyInFive system d r .x) =
+      record { c0-r = p0 .0; c0-t = q0 .0; c0-e = q0 .1; c1-r = p1 .0; c1-mask = p1 .1 }
       in
       ap₂ (λ (p q : List ℕ). F system (addV (opsOf system) n p q)) (first-x-five system a r) (first-x-five system b r) ∙
       soundness-five system good v _ _ _ _ _ _ _ _ _ _ (v-is 5 system a a good ka) (alpha-is 5 system a a good ka r within-a) (alpha-is 5 system a c good kc r within-c)

@@ -1,0 +1,273 @@
+-- Demand 3's first half for both audits: the laws of each scheme, and the claims. Assumes nothing.
+use Prim.Native.Nat.{ℕ, zero, suc, _≤_, _<_}
+use mathlib.Core.Path.{_≡_, refl, sym, ap₂, subst, _∙_}
+use mathlib.Core.Bool.{Bool, true, false, cond}
+use mathlib.Core.Logic.{_⊎_, inl, inr, ⊎-elim}
+use mathlib.Core.List.{List, [], _∷_}
+use native.Mathlib.Omega.{arith}
+use lib.Dec.{eqb}
+use Rattle.slices.proofs.Sameness.{same-true}
+use Rattle.system.specs.System.{nOf, mOf, F, systemRefusal}
+use Rattle.system.proofs.SystemLayout.{accepted}
+use Rattle.record.specs.declared.layout.Header.{Header}
+use Rattle.record.specs.Reader.{headerIn}
+use Rattle.transcript.specs.Transcript.{keyVector, roundChallenge}
+use Rattle.comparable.proofs.Front.{Front}
+use Rattle.openings.specs.Openings.{openingIn, compared, sameOpenings, secretOf}
+use Rattle.full_set.specs.FullSet.{answering, fullSet}
+use Rattle.clash.specs.Clash.{lowerChallenge, higherChallenge, leftRecord, rightRecord, samePair, pairs}
+use Rattle.audit.specs.Audit.{auditThree, auditFive}
+use Rattle.findings.specs.Findings.{Auditable, AllAccepted, FullThree, FullFive, Among, OrderThree, OrderFive, Scheme, threePass, fivePass, Each, none-left, each, Claim}
+use Rattle.findings.proofs.Comparing.{auditable, readable, alike, fitting, alike-itself}
+use Rattle.findings.proofs.Rejecting.{three-walk, five-walk}
+use Rattle.findings.proofs.FullSets.{answering-among, answers, AnsweredAll, answered-all, three-full, full-three, five-full, full-five, set-three, set-five}
+use Rattle.findings.proofs.Strings.{Opened, opened-three, opened-five}
+use Rattle.findings.proofs.Secrets.{three-secret, five-secret}
+use Rattle.findings.proofs.Search.{Sound, AllSound, Laws, audit-claim}
+
+-- ---- of each record
+
+each-first : (P : List ℕ → Type 0) (b : List ℕ) (bs : List (List ℕ)) → Each P (b ∷ bs) → P b
+each-first P b bs (each _ _ p rest) = p
+
+each-rest : (P : List ℕ → Type 0) (b : List ℕ) (bs : List (List ℕ)) → Each P (b ∷ bs) → Each P bs
+each-rest P b bs (each _ _ p rest) = rest
+
+-- the openings that are compared agree
+pub same-compared : (scheme : ℕ) (system a b c d : List ℕ) (r k : ℕ) → samePair scheme system a b c d r k ≡ true →
+    compared (openingIn system (leftRecord scheme a b c r k) r k) ≡ compared (openingIn system (rightRecord scheme a b c d r k) r k)
+unfolding samePair sameOpenings
+same-compared scheme system a b c d r k e = same-true _ _ e
+
+-- within the rounds of the first record, within those of another
+within : (scheme : ℕ) (system a b : List ℕ) (r : ℕ) → Auditable scheme system a b → r < headerIn a .rounds → r < headerIn b .rounds
+within scheme system a b r k h = subst (λ (x : Header). r < x .rounds) (k .same-header) h
+
+-- ---- three passes
+
+-- the two challenges that open commitment k
+record Openers (k : ℕ) : Type 0 where
+  low : lowerChallenge k < 3
+  high : higherChallenge k < 3
+  in-order : lowerChallenge k < higherChallenge k
+  low-other : lowerChallenge k ≡ k → ⊥
+  high-other : higherChallenge k ≡ k → ⊥
+
+openers : (k : ℕ) → k < 3 → Openers k
+unfolding lowerChallenge higherChallenge
+openers zero h = record { low = omega arith; high = omega arith; in-order = omega arith; low-other = λ e. omega (arith, e); high-other = λ e. omega (arith, e) }
+openers (suc zero) h = record { low = omega arith; high = omega arith; in-order = omega arith; low-other = λ e. omega (arith, e); high-other = λ e. omega (arith, e) }
+openers (suc (suc zero)) h = record { low = omega arith; high = omega arith; in-order = omega arith; low-other = λ e. omega (arith, e); high-other = λ e. omega (arith, e) }
+openers (suc (suc (suc k))) h = absurd (omega arith)
+
+-- the record that answers challenge j has it
+asked : (a b c : List ℕ) (r : ℕ) → FullThree a b c r → (j : ℕ) → j < 3 → roundChallenge (answering a b c r j) r ≡ j
+asked a b c r full = go (answered-all a b c r (full-three a b c r full))
+  where
+    go : AnsweredAll a b c r → (j : ℕ) → j < 3 → roundChallenge (answering a b c r j) r ≡ j
+    go all zero h = answers a b c r 0 (all .zero-is)
+    go all (suc zero) h = answers a b c r 1 (all .one-is)
+    go all (suc (suc zero)) h = answers a b c r 2 (all .two-is)
+    go all (suc (suc (suc j))) h = absurd (omega arith)
+
+module _ (system a b c : List ℕ) where
+  -- what holds of each record holds of the one that answers a challenge
+  answering-has : (P : List ℕ → Type 0) → Each P (a ∷ b ∷ c ∷ []) → (r j : ℕ) → P (answering a b c r j)
+  answering-has P all r j =
+      let rest = each-rest P a (b ∷ c ∷ []) all in
+      let last = each-rest P b (c ∷ []) rest in
+      ⊎-elim (λ (e : answering a b c r j ≡ a). subst P (sym e) (each-first P a (b ∷ c ∷ []) all))
+      (λ (others : (answering a b c r j ≡ b) ⊎ (answering a b c r j ≡ c)).
+      ⊎-elim (λ (e : answering a b c r j ≡ b). subst P (sym e) (each-first P b (c ∷ []) rest))
+      (λ (e : answering a b c r j ≡ c). subst P (sym e) (each-first P c [] last)) others) (answering-among a b c r j)
+
+  answering-sound : AllSound (threePass system a b c) → (r j : ℕ) → Sound 3 system a (answering a b c r j)
+  unfolding threePass
+  answering-sound s r j =
+      record { auditable = answering-has (Auditable 3 system a) (s .all-auditable) r j; accepted = answering-has (AllAccepted system) (s .all-accepted) r j }
+
+  answering-opened : AllSound (threePass system a b c) → (r k j : ℕ) → FullThree a b c r → k < 3 → j < 3 → (j ≡ k → ⊥) →
+      Opened 3 system (answering a b c r j) r k (openingIn system (answering a b c r j) r k)
+  unfolding threePass
+  answering-opened s r k j full hk hj other =
+      let has = asked a b c r full j hj in
+      opened-three system (answering a b c r j) r k (accepted system (s .good) .n-high) (accepted system (s .good) .m-high) (answering-sound s r j .auditable .for-scheme)
+      (rw has hj) hk (λ e. other (sym has ∙ e))
+
+  three-laws : Laws (threePass system a b c) b c c
+  unfolding threePass leftRecord rightRecord lowerChallenge higherChallenge pairs
+  three-laws =
+      record {
+        front-tells = λ k.
+            each a _ (auditable 3 system a a (k .read-a) (k .fit) (alike-itself a))
+            (each b _ (auditable 3 system a b (k .read-b) (k .fit) (k .same-b)) (each c _ (auditable 3 system a c (k .read-c) (k .fit) (k .same-c)) none-left));
+        front-when = front-when-three;
+        walked = three-walk system a b c c;
+        full-tells = λ r e. three-full a b c r (sym (set-three a b c c r) ∙ e);
+        full-when = λ r full. set-three a b c c r ∙ full-three a b c r full;
+        secret-solves = secret-solves-three;
+        pair-order = λ r k full h.
+            let o = openers k h in
+            record {
+              left-among = answering-among a b c r (lowerChallenge k);
+              right-among = answering-among a b c r (higherChallenge k);
+              lower-first = rw (asked a b c r full (lowerChallenge k) (o .low), asked a b c r full (higherChallenge k) (o .high)) (o .in-order);
+            };
+        left-sound = λ s r k. answering-sound s r (lowerChallenge k);
+        right-sound = λ s r k. answering-sound s r (higherChallenge k);
+        left-opened = λ s r k full h. let o = openers k h in answering-opened s r k (lowerChallenge k) full h (o .low) (o .low-other);
+        right-opened = λ s r k full h. let o = openers k h in answering-opened s r k (higherChallenge k) full h (o .high) (o .high-other);
+      }
+    where
+      front-when-three : systemRefusal system ≡ 0 → Each (Auditable 3 system a) (a ∷ b ∷ c ∷ []) → Front 3 system a b c c
+      front-when-three good all =
+          let P = Auditable 3 system a in
+          let rest = each-rest P a (b ∷ c ∷ []) all in
+          let ka = each-first P a (b ∷ c ∷ []) all in
+          let kb = each-first P b (c ∷ []) rest in
+          let kc = each-first P c [] (each-rest P b (c ∷ []) rest) in
+          record {
+            good = good;
+            read-a = readable 3 system a a ka;
+            read-b = readable 3 system a b kb;
+            read-c = readable 3 system a c kc;
+            read-d = readable 3 system a c kc;
+            fit = fitting 3 system a ka;
+            same-b = alike 3 system a b ka kb;
+            same-c = alike 3 system a c ka kc;
+            same-d = alike 3 system a c ka kc;
+          }
+
+      secret-solves-three : AllSound (threePass system a b c) → (r : ℕ) → r < headerIn a .rounds → FullThree a b c r →
+          ((k : ℕ) → k < pairs 3 → samePair 3 system a b c c r k ≡ true) → F system (secretOf system (answering a b c r 0) (answering a b c r 1) r) ≡ keyVector a
+      secret-solves-three s r h full same =
+          let k : (j : ℕ) → Auditable 3 system a (answering a b c r j) = λ j. answering-sound s r j .auditable in
+          three-secret system a (answering a b c r 0) (answering a b c r 1) (answering a b c r 2) r (s .good) (k 0) (k 1) (k 2) (within 3 system a _ r (k 0) h)
+          (asked a b c r full 0 (omega arith)) (asked a b c r full 1 (omega arith)) (asked a b c r full 2 (omega arith))
+          (same-compared 3 system a b c c r 0 (same 0 (omega arith))) (same-compared 3 system a b c c r 1 (same 1 (omega arith)))
+          (same-compared 3 system a b c c r 2 (same 2 (omega arith)))
+
+  -- the audit of three records of scheme 3
+  pub audit-three-claim : Claim (threePass system a b c) (auditThree system a b c)
+  unfolding auditThree threePass
+  audit-three-claim = audit-claim (threePass system a b c) b c c three-laws
+
+-- ---- five passes
+
+either : (P : List ℕ → Type 0) (t : Bool) (x y : List ℕ) → P x → P y → P (cond t x y)
+either P true x y px py = px
+either P false x y px py = py
+
+module _ (system a b c d : List ℕ) where
+  -- a full set has challenge 0 in A and 1 in B
+  a-answers : (r : ℕ) → FullFive a b c d r → answering a b c r 0 ≡ a
+  unfolding answering
+  a-answers r full = simp (full .a-challenge)
+
+  b-answers : (r : ℕ) → FullFive a b c d r → answering a b c r 1 ≡ b
+  unfolding answering
+  b-answers r full = simp (full .a-challenge, full .b-challenge)
+
+  -- what is known of the four records
+  record FourSound : Type 0 where
+    of-a : Sound 5 system a a
+    of-b : Sound 5 system a b
+    of-c : Sound 5 system a c
+    of-d : Sound 5 system a d
+
+  -- something holds of each of the four
+  four : (P : List ℕ → Type 0) → Each P (a ∷ b ∷ c ∷ d ∷ []) → P a × P b × P c × P d
+  four P all =
+      let after-a = each-rest P a (b ∷ c ∷ d ∷ []) all in
+      let after-b = each-rest P b (c ∷ d ∷ []) after-a in
+      let after-c = each-rest P c (d ∷ []) after-b in
+      (each-first P a (b ∷ c ∷ d ∷ []) all, each-first P b (c ∷ d ∷ []) after-a, each-first P c (d ∷ []) after-b, each-first P d [] after-c)
+
+  four-sound : AllSound (fivePass system a b c d) → FourSound
+  unfolding fivePass
+  four-sound s =
+      let p = four (Auditable 5 system a) (s .all-auditable) in
+      let q = four (AllAccepted system) (s .all-accepted) in
+      record {
+        of-a = record { auditable = p .0; accepted = q .0 };
+        of-b = record { auditable = p .1; accepted = q .1 };
+        of-c = record { auditable = p .2; accepted = q .2 };
+        of-d = record { auditable = p .3; accepted = q .3 };
+      }
+
+  opens-by : (good : systemRefusal system ≡ 0) (x : List ℕ) (r k : ℕ) → Sound 5 system a x → roundChallenge x r ≡ k → k < 2 → Opened 5 system x r k (openingIn system x r k)
+  opens-by good x r k s has h = opened-five system x r k (accepted system good .n-high) (accepted system good .m-high) (s .auditable .for-scheme) has h
+
+  left-sound-five : FourSound → (r k : ℕ) → Sound 5 system a (leftRecord 5 a b c r k)
+  unfolding leftRecord
+  left-sound-five s r k = either (Sound 5 system a) (eqb k 0) a b (s .of-a) (s .of-b)
+
+  right-sound-five : FourSound → (r k : ℕ) → Sound 5 system a (rightRecord 5 a b c d r k)
+  unfolding rightRecord
+  right-sound-five s r k = either (Sound 5 system a) (eqb k 0) c d (s .of-c) (s .of-d)
+
+  order-five : (r k : ℕ) → k < 2 → OrderFive a b c d r k (leftRecord 5 a b c r k) (rightRecord 5 a b c d r k)
+  unfolding leftRecord rightRecord
+  order-five r zero h = inl (refl, refl, refl)
+  order-five r (suc zero) h = inr (refl, refl, refl)
+  order-five r (suc (suc k)) h = absurd (omega arith)
+
+  left-asked : (r k : ℕ) → FullFive a b c d r → k < 2 → roundChallenge (leftRecord 5 a b c r k) r ≡ k
+  unfolding leftRecord
+  left-asked r zero full h = full .a-challenge
+  left-asked r (suc zero) full h = full .b-challenge
+  left-asked r (suc (suc k)) full h = absurd (omega arith)
+
+  right-asked : (r k : ℕ) → FullFive a b c d r → k < 2 → roundChallenge (rightRecord 5 a b c d r k) r ≡ k
+  unfolding rightRecord
+  right-asked r zero full h = full .c-challenge
+  right-asked r (suc zero) full h = full .d-challenge
+  right-asked r (suc (suc k)) full h = absurd (omega arith)
+
+  secret-solves-five : systemRefusal system ≡ 0 → FourSound → (r : ℕ) → r < headerIn a .rounds → FullFive a b c d r →
+      ((k : ℕ) → k < 2 → samePair 5 system a b c d r k ≡ true) → F system (secretOf system (answering a b c r 0) (answering a b c r 1) r) ≡ keyVector a
+  unfolding leftRecord rightRecord
+  secret-solves-five good s r h full same =
+      ap₂ (λ (x y : List ℕ). F system (secretOf system x y r)) (a-answers r full) (b-answers r full) ∙
+      five-secret system a b c d r good (s .of-a .auditable) (s .of-b .auditable) (s .of-c .auditable) (s .of-d .auditable) h (within 5 system a c r (s .of-c .auditable) h) full
+      (same-compared 5 system a b c d r 0 (same 0 (omega arith))) (same-compared 5 system a b c d r 1 (same 1 (omega arith)))
+
+  front-when-five : systemRefusal system ≡ 0 → Each (Auditable 5 system a) (a ∷ b ∷ c ∷ d ∷ []) → Front 5 system a b c d
+  front-when-five good all =
+      let k = four (Auditable 5 system a) all in
+      record {
+        good = good;
+        read-a = readable 5 system a a (k .0);
+        read-b = readable 5 system a b (k .1);
+        read-c = readable 5 system a c (k .2);
+        read-d = readable 5 system a d (k .3);
+        fit = fitting 5 system a (k .0);
+        same-b = alike 5 system a b (k .0) (k .1);
+        same-c = alike 5 system a c (k .0) (k .2);
+        same-d = alike 5 system a d (k .0) (k .3);
+      }
+
+  five-laws : Laws (fivePass system a b c d) b c d
+  unfolding fivePass pairs
+  five-laws =
+      record {
+        front-tells = λ k.
+            each a _ (auditable 5 system a a (k .read-a) (k .fit) (alike-itself a))
+            (each b _ (auditable 5 system a b (k .read-b) (k .fit) (k .same-b))
+            (each c _ (auditable 5 system a c (k .read-c) (k .fit) (k .same-c)) (each d _ (auditable 5 system a d (k .read-d) (k .fit) (k .same-d)) none-left)));
+        front-when = front-when-five;
+        walked = five-walk system a b c d;
+        full-tells = λ r e. five-full a b c d r (sym (set-five a b c d r) ∙ e);
+        full-when = λ r full. set-five a b c d r ∙ full-five a b c d r full;
+        secret-solves = λ s r h full same. secret-solves-five (s .good) (four-sound s) r h full same;
+        pair-order = λ r k full h. order-five r k h;
+        left-sound = λ s r k. left-sound-five (four-sound s) r k;
+        right-sound = λ s r k. right-sound-five (four-sound s) r k;
+        left-opened = λ s r k full h. opens-by (s .good) _ r k (left-sound-five (four-sound s) r k) (left-asked r k full h) h;
+        right-opened = λ s r k full h. opens-by (s .good) _ r k (right-sound-five (four-sound s) r k) (right-asked r k full h) h;
+      }
+
+  -- the audit of four records of scheme 5
+  pub audit-five-claim : Claim (fivePass system a b c d) (auditFive system a b c d)
+  unfolding auditFive fivePass
+  audit-five-claim = audit-claim (fivePass system a b c d) b c d five-laws

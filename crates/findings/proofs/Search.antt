@@ -1,0 +1,225 @@
+-- The claim about an audit from the laws of its scheme, which are said here as well. Assumes nothing.
+use Prim.Native.Nat.{ℕ, zero, suc, _+_, _-_, _*_, _≤_, _<_}
+use mathlib.Core.Path.{_≡_, refl, sym, ap, ap₂, subst, _∙_}
+use mathlib.Core.Bool.{Bool, true, false, not, cond}
+use mathlib.Core.Logic.{inl, inr}
+use mathlib.Core.List.{List, [], _∷_}
+use native.Mathlib.Omega.{arith}
+use borrow.Author.Tests.{not-true, not-false}
+use lib.ListN.{take, drop}
+use Rattle.slices.proofs.Sameness.{same-by}
+use Rattle.sha256.specs.Sha256.{sha256}
+use Rattle.system.specs.System.{opsOf, nOf, F, systemRefusal, WellFormedSystem}
+use Rattle.system.proofs.SystemLayout.{well-formed, not-refused}
+use Rattle.protocol.specs.Rounds.{mapOf, IsX}
+use Rattle.protocol.proofs.Rounds.{quadratic-map}
+use Rattle.round.specs.Pieces.{commitment}
+use Rattle.exchange.specs.Messages.{commitmentsIn}
+use Rattle.scheme.specs.Scheme as S
+use Rattle.record.specs.declared.layout.Header.{Header}
+use Rattle.record.specs.Reader.{headerIn, fieldsIn}
+use Rattle.transcript.specs.Transcript.{keyVector, roundCommitments, acceptedRound}
+use Rattle.transcript.proofs.Search.{FirstIs, where-none, found-where}
+use Rattle.comparable.specs.declared.Rejection.{Rejection}
+use Rattle.comparable.specs.Comparable.{frontRefusal, rejectionOf}
+use Rattle.comparable.proofs.Front.{Front, front, none-refused}
+use Rattle.openings.specs.Openings.{openingIn, compared, sameOpenings, secretOf}
+use Rattle.full_set.specs.FullSet.{answering, fullSet, firstFull}
+use Rattle.clash.specs.Clash.{leftRecord, rightRecord, samePair, pairs, firstClash}
+use Rattle.audit.specs.Outcome.{Outcome, refused}
+use Rattle.audit.specs.Audit.{secretAt, clashAt, findingAt, searchOf, auditOf}
+use Rattle.audit.proofs.Outcomes.{finding-secret, finding-clash, search-none, search-found, audit-refused, audit-rejected, audit-searched}
+use Rattle.findings.specs.Findings.{Auditable, AllAccepted, Each, Scheme, Due, TrueClash, Right, IsFinding, Claim}
+use Rattle.findings.proofs.Comparing.{front-number}
+use Rattle.findings.proofs.Rejecting.{walk, all-accepted, none-rejected, first-rejected}
+use Rattle.findings.proofs.Strings.{Opened}
+
+-- a record that is audited, every round of it accepted
+pub record Sound (scheme : ℕ) (system a b : List ℕ) : Type 0 where
+  pub auditable : Auditable scheme system a b
+  pub accepted : AllAccepted system b
+
+-- all the records are
+pub record AllSound (t : Scheme) : Type 0 where
+  pub good : systemRefusal (t .system) ≡ 0
+  pub all-auditable : Each (Auditable (t .scheme) (t .system) (t .first)) (t .first ∷ t .others)
+  pub all-accepted : Each (AllAccepted (t .system)) (t .first ∷ t .others)
+
+-- what the claim needs of a scheme; b, c, d are the records as the audit is given them
+pub record Laws (t : Scheme) (b c d : List ℕ) : Type 0 where
+  pub front-tells : Front (t .scheme) (t .system) (t .first) b c d → Each (Auditable (t .scheme) (t .system) (t .first)) (t .first ∷ t .others)
+  pub front-when : systemRefusal (t .system) ≡ 0 → Each (Auditable (t .scheme) (t .system) (t .first)) (t .first ∷ t .others) →
+      Front (t .scheme) (t .system) (t .first) b c d
+  pub walked : rejectionOf (t .scheme) (t .system) (t .first) b c d ≡ walk (t .system) 1 (t .first ∷ t .others)
+  pub full-tells : (r : ℕ) → fullSet (t .scheme) (t .first) b c d r ≡ true → t .Full r
+  pub full-when : (r : ℕ) → t .Full r → fullSet (t .scheme) (t .first) b c d r ≡ true
+  pub secret-solves : AllSound t → (r : ℕ) → r < headerIn (t .first) .rounds → t .Full r →
+      ((k : ℕ) → k < pairs (t .scheme) → samePair (t .scheme) (t .system) (t .first) b c d r k ≡ true) →
+      F (t .system) (secretOf (t .system) (answering (t .first) b c r 0) (answering (t .first) b c r 1) r) ≡ keyVector (t .first)
+  pub pair-order : (r k : ℕ) → t .Full r → k < pairs (t .scheme) → t .Order r k (leftRecord (t .scheme) (t .first) b c r k) (rightRecord (t .scheme) (t .first) b c d r k)
+  pub left-sound : AllSound t → (r k : ℕ) → Sound (t .scheme) (t .system) (t .first) (leftRecord (t .scheme) (t .first) b c r k)
+  pub right-sound : AllSound t → (r k : ℕ) → Sound (t .scheme) (t .system) (t .first) (rightRecord (t .scheme) (t .first) b c d r k)
+  pub left-opened : AllSound t → (r k : ℕ) → t .Full r → k < pairs (t .scheme) →
+      let left = leftRecord (t .scheme) (t .first) b c r k in
+      Opened (t .scheme) (t .system) left r k (openingIn (t .system) left r k)
+  pub right-opened : AllSound t → (r k : ℕ) → t .Full r → k < pairs (t .scheme) →
+      let right = rightRecord (t .scheme) (t .first) b c d r k in
+      Opened (t .scheme) (t .system) right r k (openingIn (t .system) right r k)
+
+-- ---- one commitment, opened in two ways
+
+same-commitments : (scheme : ℕ) (system a b : List ℕ) (r : ℕ) → Auditable scheme system a b → roundCommitments b r ≡ roundCommitments a r
+unfolding roundCommitments
+same-commitments scheme system a b r k =
+    ap₂ (λ (h : Header) (l : List ℕ). take (S.commitmentsLength (h .scheme)) (drop (r * S.commitmentsLength (h .scheme)) l)) (sym (k .same-header)) (sym (k .same-commitments))
+
+-- the opening of an accepted round hashes to the first record's commitment
+hashes-first : (scheme : ℕ) (system a b : List ℕ) (r k : ℕ) (x : List ℕ) → Sound scheme system a b → r < headerIn a .rounds → Opened scheme system b r k x →
+    sha256 x ≡ commitment (commitmentsIn (roundCommitments a r)) k
+hashes-first scheme system a b r k x s within o =
+    let below : r < headerIn b .rounds = subst (λ (h : Header). r < h .rounds) (s .auditable .same-header) within in
+    o .hashes (s .accepted r below) ∙ ap (λ (l : List ℕ). commitment (commitmentsIn l) k) (same-commitments scheme system a b r (s .auditable))
+
+true-not-false : true ≡ false → ⊥
+true-not-false e = let one : _≡_ {A = ℕ} 1 0 = ap (λ (t : Bool). cond t 1 0) e in omega (arith, one)
+
+differ-compared : (x y : List ℕ) → sameOpenings x y ≡ false → compared x ≡ compared y → ⊥
+unfolding sameOpenings
+differ-compared x y differ e = true-not-false (sym (same-by (compared x) (compared y) e) ∙ differ)
+
+module _ (t : Scheme) (b c d : List ℕ) (laws : Laws t b c d) where
+  abbrev scheme : ℕ
+  scheme = t .scheme
+
+  abbrev system : List ℕ
+  system = t .system
+
+  abbrev a : List ℕ
+  a = t .first
+
+  -- r is the round used
+  abbrev Used : ℕ → Type 0
+  Used r = FirstIs (headerIn a .rounds) (fullSet scheme a b c d) r
+
+  -- k is the first pair that differs
+  abbrev Differs : ℕ → ℕ → Type 0
+  Differs r k = FirstIs (pairs scheme) (λ j. not (samePair scheme system a b c d r j)) k
+
+  -- ---- a finding
+
+  due : AllSound t → (r : ℕ) → Used r → Due t
+  due s r used =
+      record {
+        system-well-formed = well-formed system (s .good);
+        records-auditable = s .all-auditable;
+        rounds-accepted = s .all-accepted;
+        round = r;
+        round-in = used .within;
+        full = laws .full-tells r (used .holds);
+      }
+
+  secret-right : AllSound t → (r : ℕ) → Used r → firstClash scheme system a b c d r ≡ 0 → Right t (secretAt system a b c r)
+  unfolding Right secretAt firstClash secretOf mapOf
+  secret-right s r used none =
+      let same : (k : ℕ) → k < pairs scheme → samePair scheme system a b c d r k ≡ true =
+      λ k h. not-false _ (where-none (pairs scheme) (λ j. not (samePair scheme system a b c d r j)) none k h)
+      in
+      (quadratic-map system (s .good) .groupX .add-is _ _, laws .secret-solves s r (used .within) (laws .full-tells r (used .holds)) same)
+
+  clash-right : AllSound t → (r : ℕ) → Used r → (k : ℕ) → Differs r k → Right t (clashAt scheme system a b c d r k)
+  unfolding Right clashAt samePair
+  clash-right s r used k differs =
+      let full = laws .full-tells r (used .holds) in
+      let left = laws .left-opened s r k full (differs .within) in
+      let right = laws .right-opened s r k full (differs .within) in
+      record {
+        round = r;
+        round-in = used .within;
+        full = full;
+        first-full = λ j h earlier. true-not-false (sym (laws .full-when j earlier) ∙ used .before j h);
+        left = leftRecord scheme a b c r k;
+        right = rightRecord scheme a b c d r k;
+        order = laws .pair-order r k full (differs .within);
+        left-opens = left .opens;
+        right-opens = right .opens;
+        left-hashes = hashes-first scheme system a _ r k _ (laws .left-sound s r k) (used .within) left;
+        right-hashes = hashes-first scheme system a _ r k _ (laws .right-sound s r k) (used .within) right;
+        left-vectors = compared (openingIn system (leftRecord scheme a b c r k) r k);
+        right-vectors = compared (openingIn system (rightRecord scheme a b c d r k) r k);
+        left-has = left .has;
+        right-has = right .has;
+        vectors-differ = differ-compared _ _ (not-true _ (differs .holds));
+      }
+
+  finding-claim : AllSound t → (r : ℕ) → Used r → Claim t (findingAt scheme system a b c d r)
+  unfolding IsFinding secretAt clashAt firstClash
+  finding-claim s r used = go (firstClash scheme system a b c d r) refl
+    where
+      go : (k : ℕ) → firstClash scheme system a b c d r ≡ k → Claim t (findingAt scheme system a b c d r)
+      go zero none =
+          subst (Claim t) (finding-secret scheme system a b c d r 0 (sym none) refl)
+          (record { found-when-due = λ q. tt; due-when-found = λ q. due s r used; right = secret-right s r used none })
+      go (suc k) some =
+          let back : k ≡ suc k - 1 = omega arith in
+          subst (Claim t) (ap (clashAt scheme system a b c d r) back ∙ finding-clash scheme system a b c d r (suc k) (sym some) (λ z. omega (arith, z)))
+          (record {
+            found-when-due = λ q. tt;
+            due-when-found = λ q. due s r used;
+            right = clash-right s r used k (found-where (pairs scheme) _ k (some ∙ omega arith));
+          })
+
+  -- ---- every answer
+
+  search-claim : AllSound t → Claim t (searchOf scheme system a b c d)
+  unfolding IsFinding Right firstFull
+  search-claim s = go (firstFull scheme a b c d) refl
+    where
+      go : (round : ℕ) → firstFull scheme a b c d ≡ round → Claim t (searchOf scheme system a b c d)
+      go zero none =
+          subst (Claim t) (search-none scheme system a b c d 0 (sym none) refl)
+          (record {
+            found-when-due = λ q. true-not-false (sym (laws .full-when (q .round) (q .full)) ∙ where-none (headerIn a .rounds) _ none (q .round) (q .round-in));
+            due-when-found = λ q. absurd q;
+            right = inr (λ e. omega (arith, e), refl, refl);
+          })
+      go (suc r) some =
+          let back : r ≡ suc r - 1 = omega arith in
+          subst (Claim t) (ap (findingAt scheme system a b c d) back ∙ search-found scheme system a b c d (suc r) (sym some) (λ z. omega (arith, z)))
+          (finding-claim s r (found-where (headerIn a .rounds) _ r (some ∙ omega arith)))
+
+  -- nothing is refused before the rounds are judged
+  judged-claim : frontRefusal scheme system a b c d ≡ 0 → Claim t (auditOf scheme system a b c d)
+  unfolding IsFinding Right
+  judged-claim passed = go (walk system 1 (a ∷ t .others) .whose) refl
+    where
+      first : Rejection
+      first = walk system 1 (a ∷ t .others)
+
+      go : (whose : ℕ) → first .whose ≡ whose → Claim t (auditOf scheme system a b c d)
+      go zero none =
+          let k = front scheme system a b c d passed in
+          let s : AllSound t = record { good = k .good; all-auditable = laws .front-tells k; all-accepted = all-accepted system 0 (a ∷ t .others) none } in
+          subst (Claim t) (audit-searched scheme system a b c d 0 first (sym passed) refl (sym (laws .walked)) none) (search-claim s)
+      go (suc whose) some =
+          let rejected : first .whose ≡ 0 → ⊥ = λ z. omega (arith, some, z) in
+          subst (Claim t) (audit-rejected scheme system a b c d 0 first (sym passed) refl (sym (laws .walked)) rejected)
+          (record {
+            found-when-due = λ q. rejected (none-rejected system 1 (a ∷ t .others) (q .rounds-accepted));
+            due-when-found = λ q. absurd q;
+            right = inl (refl, first-rejected system (a ∷ t .others) rejected);
+          })
+
+  pub audit-claim : Claim t (auditOf scheme system a b c d)
+  unfolding IsFinding Right
+  audit-claim = go (frontRefusal scheme system a b c d) refl
+    where
+      go : (number : ℕ) → frontRefusal scheme system a b c d ≡ number → Claim t (auditOf scheme system a b c d)
+      go zero none = judged-claim none
+      go (suc number) some =
+          let refused-before : frontRefusal scheme system a b c d ≡ 0 → ⊥ = λ z. omega (arith, some, z) in
+          subst (Claim t) (audit-refused scheme system a b c d (frontRefusal scheme system a b c d) refl refused-before)
+          (record {
+            found-when-due = λ q. refused-before (none-refused scheme system a b c d (laws .front-when (not-refused system (q .system-well-formed)) (q .records-auditable)));
+            due-when-found = λ q. absurd q;
+            right = inr (λ e. omega (arith, e, front-number scheme system a b c d), refl, refl);
+          })
