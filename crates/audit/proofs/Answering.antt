@@ -7,9 +7,9 @@ use Rattle.slices.specs.Slices.{zeros}
 use Rattle.commitment.specs.declared.Text.{Text}
 use Rattle.commitment.specs.Held.{text}
 use Rattle.commitment.proofs.HeldStrings.{content}
-use Rattle.audit.specs.declared.Finding.the-variants.{Secret, Clash, Refused}
+use Rattle.audit.specs.declared.Finding.the-variants.{Secret, Refused}
 use Rattle.audit.specs.declared.Audited.{Audited}
-use Rattle.audit.specs.Outcome.{Outcome, secret, clash, refused, answerOf, outcomeBy, outcomeOf, Answers}
+use Rattle.audit.specs.Outcome.{Outcome, secret, clash, refused, clashed, answerOf, outcomeBy, outcomeOf, Answers}
 
 -- the same outcome by another name
 pub answers-by : (r : Audited) (o p : Outcome) → Answers r o → o ≡ p → Answers r p
@@ -27,11 +27,11 @@ unfolding answerOf outcomeOf outcomeBy
 answers-secret s t x y is no-first no-second =
     record { is = λ i. record { finding = Secret; secret = is i; first = no-first i; second = no-second i }; says = ap secret is }
 
-pub answers-clash : (k : ℕ) (s : List ℕ) (x y : Text) (l m : List ℕ) → s ≡ zeros 96 → x ≡ text l → x .len ≤ 322 → y ≡ text m → y .len ≤ 322 →
-    Answers (record { finding = Clash k; secret = s; first = x; second = y }) (clash k l m)
-unfolding answerOf outcomeOf outcomeBy
-answers-clash k s x y l m no-secret first first-room second second-room =
+pub answers-clash : (r : Audited) (k : ℕ) (x y : Text) (l m : List ℕ) → r ≡ clashed k x y → x ≡ text l → x .len ≤ 322 → y ≡ text m → y .len ≤ 322 →
+    Answers r (clash k l m)
+unfolding answerOf outcomeOf outcomeBy clashed
+answers-clash r k x y l m is first first-room second second-room =
     record {
-      is = λ i. record { finding = Clash k; secret = no-secret i; first = first i; second = second i };
-      says = ap₂ (clash k) (content x l first first-room) (content y m second second-room);
+      is = is ∙ ap₂ (clashed k) first second;
+      says = ap outcomeOf is ∙ ap₂ (clash k) (content x l first first-room) (content y m second second-room);
     }

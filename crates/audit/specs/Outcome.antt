@@ -4,6 +4,7 @@ use mathlib.Core.Path.{_≡_}
 use mathlib.Core.List.{List, []}
 use lib.ListN.{take}
 use Rattle.slices.specs.Slices.{zeros}
+use Rattle.commitment.specs.declared.Text.{Text}
 use Rattle.commitment.specs.Held.{text}
 use Rattle.audit.specs.declared.Finding.{Finding}
 use Rattle.audit.specs.declared.Finding.the-variants.{Secret, Clash, Refused}
@@ -15,10 +16,14 @@ pub data Outcome : Type 0 where
   clash : ℕ → List ℕ → List ℕ → Outcome
   refused : ℕ → ℕ → ℕ → Outcome
 
--- "zero beyond their lengths, the secret zero"; "both strings empty"; "On a refusal the secret and both strings are zero, with lengths 0."
+-- a clash with the strings as the code holds them: "zero beyond their lengths, the secret zero"
+unfoldable pub clashed : ℕ → Text → Text → Audited
+clashed k x y = record { finding = Clash k; secret = zeros 96; first = x; second = y }
+
+-- "both strings empty"; "On a refusal the secret and both strings are zero, with lengths 0."
 unfoldable pub answerOf : Outcome → Audited
 answerOf (secret s) = record { finding = Secret; secret = s; first = text []; second = text [] }
-answerOf (clash k x y) = record { finding = Clash k; secret = zeros 96; first = text x; second = text y }
+answerOf (clash k x y) = clashed k (text x) (text y)
 answerOf (refused number whose round) = record { finding = Refused number whose round; secret = zeros 96; first = text []; second = text [] }
 
 -- this document's number and values for each of the finding's cases

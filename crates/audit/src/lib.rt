@@ -16,7 +16,7 @@ ghost use mathlib.Core.Path.{_≡_};
 ghost use mathlib.Core.List.{[]};
 ghost use Rattle.system.specs.System.{systemRefusal};
 ghost use Rattle.commitment.specs.Held.{text};
-ghost use Rattle.audit.specs.Outcome.{refused as Outcome·refused, Answers};
+ghost use Rattle.audit.specs.Outcome.{refused as Outcome·refused, clashed as Outcome·clashed, Answers};
 ghost use Rattle.audit.specs.Audit.{clashAt, secretAt, searchOf, auditOf, auditThree, auditFive};
 
 // What an audit finds: the secret; commitment k opened with different vectors; or nothing, by the refusal's number with
@@ -71,6 +71,18 @@ fn secret_at<'a>(system: &'a [u8], a: &'a [u8], b: &'a [u8], c: &'a [u8], r: u8)
     }
 }
 
+// A clash with its two strings.
+fn clashed(k: u8, first: Text, second: Text) -> Audited
+    ensures { λ o. ⌜ o ≡ Outcome·clashed k first second ⌝ }
+{
+    Audited {
+        finding: Finding::Clash(k),
+        secret: [0; 96],
+        first,
+        second,
+    }
+}
+
 // Commitment k of a round, opened in two ways.
 fn clash_at<'a>(
     scheme: u8,
@@ -85,14 +97,9 @@ fn clash_at<'a>(
     requires { ⌜ systemRefusal (now system) ≡ 0 ⌝ }
     ensures { λ o. ⌜ Answers o (clashAt scheme (now (system .entry)) (now (a .entry)) (now (b .entry)) (now (c .entry)) (now (d .entry)) r k) ⌝ }
 {
-    let left = left_record(scheme, a, b, c, r, k);
-    let right = right_record(scheme, a, b, c, d, r, k);
-    Audited {
-        finding: Finding::Clash(k),
-        secret: [0; 96],
-        first: opening(system, left, r, k),
-        second: opening(system, right, r, k),
-    }
+    let left = opening(system, left_record(scheme, a, b, c, r, k), r, k);
+    let right = opening(system, right_record(scheme, a, b, c, d, r, k), r, k);
+    clashed(k, left, right)
 }
 
 // What a search over the rounds finds.

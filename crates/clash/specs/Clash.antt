@@ -12,7 +12,7 @@ unfoldable pub lowerChallenge : ℕ → ℕ
 lowerChallenge k = cond (eqb k 0) 1 0
 
 unfoldable pub higherChallenge : ℕ → ℕ
-higherChallenge k = cond (eqb k 2) 1 2
+higherChallenge k = cond (eqb k 0) 2 (cond (eqb k 1) 2 1)
 
 -- "The string of the lower challenge stands first (scheme 5: of the earlier record)." "scheme 5: c0 of A and C, c1 of B and D"
 unfoldable pub leftRecord : ℕ → List ℕ → List ℕ → List ℕ → ℕ → ℕ → List ℕ

@@ -24,8 +24,9 @@ fn higher_challenge(k: u8) -> u8
     ensures { λ r. ⌜ r ≡ higherChallenge k ⌝ }
 {
     match k {
-        2 => 1,
-        _ => 2,
+        0 => 2,
+        1 => 2,
+        _ => 1,
     }
 }
 

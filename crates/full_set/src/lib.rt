@@ -92,14 +92,15 @@ pub fn first_full<'a>(scheme: u8, a: &'a [u8], b: &'a [u8], c: &'a [u8], d: &'a 
     ensures { λ r. ⌜ r ≡ firstFull scheme (now (a .entry)) (now (b .entry)) (now (c .entry)) (now (d .entry)) ⌝ }
 {
     let rounds = header_of(a).rounds;
-    let mut r = 0;
     let mut found = 0;
-    while r < rounds {
+    let mut left = rounds;
+    while 0 < left {
+        let r = rounds - left;
         if full_set(scheme, a, b, c, d, r) {
             found = r + 1;
             break;
         }
-        r += 1;
+        left -= 1;
     }
     found
 }

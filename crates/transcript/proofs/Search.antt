@@ -72,13 +72,13 @@ found-where (suc n) test i e = go (firstWhere n test) refl (found-where n test i
 -- ---- a loop that looks for it
 
 -- at its start
-pub where-start : (test : ℕ → Bool) → firstWhere 0 test ≡ 0
+pub where-start : (test : ℕ → Bool) (i : ℕ) → i ≡ 0 → firstWhere i test ≡ 0
 unfolding firstWhere
-where-start test = refl
+where-start test i start = rw start refl
 
 -- after a turn in which the test failed
-pub where-step : (test : ℕ → Bool) (i : ℕ) (t : Bool) → firstWhere i test ≡ 0 → t ≡ test i → t ≡ false → firstWhere (i + 1) test ≡ 0
-where-step test i t none is fails = none-where (i + 1) test (λ j h. at-most j (omega arith))
+pub where-step : (test : ℕ → Bool) (i next : ℕ) (t : Bool) → firstWhere i test ≡ 0 → t ≡ test i → t ≡ false → next ≡ i + 1 → firstWhere next test ≡ 0
+where-step test i next t none is fails later = none-where next test (λ j h. at-most j (omega arith))
   where
     at-most : (j : ℕ) → j ≤ i → test j ≡ false
     at-most j h = ⊎-elim (λ (same : j ≡ i). rw same (sym is ∙ fails)) (λ (below : j < i). where-none i test none j below) (eq-or-lt-of-le h)

@@ -1,6 +1,6 @@
 -- The invariant: no pair before k differs. Assumes nothing.
 use Prim.Native.Nat.{ℕ, _+_, _-_, _≤_}
-use mathlib.Core.Path.{_≡_, ap, _∙_}
+use mathlib.Core.Path.{_≡_, refl, ap, _∙_}
 use mathlib.Core.Bool.{Bool, not}
 use mathlib.Core.List.{List}
 use native.Mathlib.Omega.{arith}
@@ -33,11 +33,11 @@ first-clash-spec =
     Inv-loop
     μ-loop
     (λ c κs. search needs)
-    (λ c. (where-start _, omega arith, omega arith))
+    (λ c. (where-start _ _ refl, omega arith, omega arith))
     (λ c κs. search needs)
     (λ c. omega arith)
     (λ c. omega arith)
-    (λ c. (where-step _ _ _ (c .before .before .before .loop .inv .0) (ap not (c .before .same-pair .ensures)) (ap not (c .if1 .taken)), omega arith, omega arith))
+    (λ c. (where-step _ _ _ _ (c .before .before .before .loop .inv .0) (ap not (c .before .same-pair .ensures)) (ap not (c .if1 .taken)) refl, omega arith, omega arith))
     (λ c. omega arith)
     (λ c. answer _ _ _ _ _ _ _ _ _ (c .before .before .before .before .pairs .ensures) (where-here _ _ _ _ (c .before .before .before .loop .inv .0) (ap not (c .before .same-pair .ensures)) (ap not (c .if1 .left)) (c .before .before .loop-test .taken)))
     (λ c. answer _ _ _ _ _ _ _ _ _ (c .before .before .pairs .ensures) (where-end _ _ _ (c .before .loop .inv .0) (c .before .loop .inv .1) (c .loop-test .left))))

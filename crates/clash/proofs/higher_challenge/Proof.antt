@@ -10,4 +10,5 @@ higher-challenge-spec =
     tie.close
     (tie.spec
     (λ c. simp (c .match .keys1))
-    (λ c. simp (ne-eqb _ _ (c .match .rest .1))))
+    (λ c. simp (c .match .keys2))
+    (λ c. simp (ne-eqb _ 0 (c .match .rest .0 .1), ne-eqb _ 1 (c .match .rest .1))))
