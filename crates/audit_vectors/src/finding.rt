@@ -1,8 +1,8 @@
 // What an audit answers as 752 bytes, and their comparison with those expected.
 ghost use Prim.Native.Nat.{_+_, _≤_};
 ghost use lib.ListN.{length};
-use audit::Audited;
-use audit::Finding;
+use auditing::Audited;
+use auditing::Finding;
 use cases::Outcome;
 use commitment::Text;
 

@@ -4,8 +4,8 @@ mod finding;
 ghost use mathlib.Core.Path.{_≡_};
 ghost use lib.ListN.{length};
 use crate::finding::compared;
-use audit::audit_five;
-use audit::audit_three;
+use auditing::audit_five;
+use auditing::audit_three;
 use cases::Outcome;
 
 // The bytes that name the audits in a case.

@@ -7,7 +7,7 @@ use lib.ListN.{length, take}
 use Rattle.slices.specs.Slices.{_!_, same, zeros}
 use Rattle.refusal.specs.Refusal.{unless, _orElse_}
 use Rattle.field.specs.Ops.{ops}
-use Rattle.field.specs.Vector.{vector, subV, allBelow}
+use Rattle.field.specs.Vector.{held, subV, allBelow}
 use Rattle.system.specs.System.{qOf, nOf, mOf, areSizes, hasSizes, systemRefusal, F}
 use Rattle.scheme.specs.Scheme.{isScheme, isRounds, challenges, commitmentsLength, vectorsLength, replyLength}
 use Rattle.protocol.specs.Protocols as P
@@ -79,10 +79,6 @@ cardWith card phase round l e1 =
     }
 
 -- ---- open(system, scheme, N, v, s)
-
--- the key as 96 bytes
-abbrev pub held : List ℕ → List ℕ
-held l = vector (length l) (λ i. l ! i)
 
 -- "the system ..; then arguments left to right, all 1, all 2, all 3, then 4"
 unfoldable pub openForm : List ℕ → ℕ → ℕ → List ℕ → List ℕ → ℕ

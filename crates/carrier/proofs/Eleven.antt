@@ -7,25 +7,11 @@ use native.Mathlib.Omega.{arith}
 use lib.Dec.{eqb}
 use borrow.Author.Tests.{ne-eqb}
 use Rattle.refusal.specs.Refusal.{unless, _orElse_}
-use Rattle.system.specs.System.{systemRefusal}
+use Rattle.refusal.proofs.Refusals.{unless-most, orElse-most}
+use Rattle.system.proofs.SystemLayout.{system-most}
 use Rattle.session_state.specs.State.{stateRefusal}
 use Rattle.carrier.specs.declared.session.Carrier.{Carrier}
 use Rattle.carrier.specs.Carrier.{phaseNumber, commitmentsRefusal, alphaRefusal, middleRefusal, challengeRefusal, replyRefusal}
-
--- ---- the largest number in a chain of refusals
-
-unless-most : (test : Bool) (k most : ℕ) → k ≤ most → unless test k ≤ most
-unfolding unless
-unless-most true k most h = omega arith
-unless-most false k most h = h
-
-orElse-most : (a b most : ℕ) → a ≤ most → b ≤ most → (a orElse b) ≤ most
-unfolding _orElse_
-orElse-most a b most ha hb = go (eqb a 0)
-  where
-    go : (none : Bool) → cond none b a ≤ most
-    go true = hb
-    go false = ha
 
 -- ---- "11 a closed session": where no later refusal has that number
 
@@ -42,29 +28,23 @@ eleven phase due later h = go (eqb phase 0) (eqb phase due)
 
 pub commitments-eleven : (c : Carrier) (commitments : List ℕ) → eqb (commitmentsRefusal c commitments) 11 ≡ eqb (phaseNumber (c .phase)) 0
 unfolding commitmentsRefusal
-commitments-eleven c commitments = eleven _ 1 _ (unless-most _ 2 9 (omega arith))
+commitments-eleven c commitments = eleven _ 1 _ (unless-most _ 2 9 tt)
 
 pub alpha-eleven : (c : Carrier) (α : ℕ) → eqb (alphaRefusal c α) 11 ≡ eqb (phaseNumber (c .phase)) 0
 unfolding alphaRefusal
-alpha-eleven c α = eleven _ 2 _ (unless-most _ 3 9 (omega arith))
+alpha-eleven c α = eleven _ 2 _ (unless-most _ 3 9 tt)
 
 pub middle-eleven : (c : Carrier) (middle : List ℕ) → eqb (middleRefusal c middle) 11 ≡ eqb (phaseNumber (c .phase)) 0
 unfolding middleRefusal
-middle-eleven c middle = eleven _ 3 _ (orElse-most _ _ 9 (unless-most _ 2 9 (omega arith)) (unless-most _ 3 9 (omega arith)))
+middle-eleven c middle = eleven _ 3 _ (orElse-most _ _ 9 (unless-most _ 2 9 tt) (unless-most _ 3 9 tt))
 
 pub challenge-eleven : (c : Carrier) (challenge : ℕ) → eqb (challengeRefusal c challenge) 11 ≡ eqb (phaseNumber (c .phase)) 0
 unfolding challengeRefusal
-challenge-eleven c challenge = eleven _ 4 _ (unless-most _ 4 9 (omega arith))
-
-system-most : (b : List ℕ) → systemRefusal b ≤ 9
-unfolding systemRefusal
-system-most b =
-    orElse-most _ _ 9 (unless-most _ 2 9 (omega arith))
-    (orElse-most _ _ 9 (unless-most _ 1 9 (omega arith)) (orElse-most _ _ 9 (unless-most _ 2 9 (omega arith)) (unless-most _ 3 9 (omega arith))))
+challenge-eleven c challenge = eleven _ 4 _ (unless-most _ 4 9 tt)
 
 pub reply-eleven : (c : Carrier) (b reply : List ℕ) → eqb (replyRefusal c b reply) 11 ≡ eqb (phaseNumber (c .phase)) 0
 unfolding replyRefusal
 reply-eleven c b reply =
     eleven _ 5 _
-    (orElse-most _ _ 9 (system-most b)
-    (orElse-most _ _ 9 (unless-most _ 7 9 (omega arith)) (orElse-most _ _ 9 (unless-most _ 2 9 (omega arith)) (unless-most _ 3 9 (omega arith)))))
+    (orElse-most _ _ 9 (system-most b 9 tt)
+    (orElse-most _ _ 9 (unless-most _ 7 9 tt) (orElse-most _ _ 9 (unless-most _ 2 9 tt) (unless-most _ 3 9 tt))))

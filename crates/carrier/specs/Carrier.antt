@@ -6,7 +6,7 @@ use lib.Dec.{ltb, eqb}
 use lib.ListN.{length, take}
 use Rattle.slices.specs.Slices.{_!_, tabulate, zeros}
 use Rattle.refusal.specs.Refusal.{unless, _orElse_}
-use Rattle.field.specs.Vector.{vector, allBelow}
+use Rattle.field.specs.Vector.{held, allBelow}
 use Rattle.system.specs.System.{qOf, nOf, mOf, hasSizes, systemRefusal}
 use Rattle.scheme.specs.Scheme.{isScheme, isRounds, challenges, commitmentsLength, vectorsLength, replyLength}
 use Rattle.exchange.specs.Messages.{accepts}
@@ -60,10 +60,7 @@ carrierWith c phase accepted commitments middle challenge =
       challenge = challenge;
     }
 
--- bytes by value, zero beyond their length: 96 and 193 of them
-abbrev pub held : List ℕ → List ℕ
-held l = vector (length l) (λ i. l ! i)
-
+-- α, t1 and e1 by value in 193 bytes, zero beyond their length
 unfoldable pub heldMiddle : ℕ → List ℕ → List ℕ
 heldMiddle α l = tabulate 193 (λ i. (α ∷ l) ! i)
 

@@ -11,7 +11,7 @@ use lib.ListN.{length, take, length-append, length-take, replicate, length-repli
 use lib.Seq.{length-take-le, getD-take, getD-append-add, take-append-le, take-at}
 use Rattle.slices.specs.Slices.{_!_, tabulate}
 use Rattle.slices.proofs.Tabulate.{length-tabulate, tabulate-at, tabulate-beyond, tabulate-of, tabulate-cong}
-use Rattle.slices.proofs.Sameness.{and-left, and-right}
+use Rattle.slices.proofs.Booleans.{and-left, and-right}
 use Rattle.field.specs.Ops.{Ops}
 use Rattle.field.specs.Vector.{vector, slotV, IsVector, allBelow}
 use Rattle.field.proofs.Vectors.{length-vector, vector-at, vector-beyond, vector-cong}

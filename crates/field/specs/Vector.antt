@@ -4,12 +4,17 @@ use mathlib.Core.Path.{_≡_}
 use mathlib.Core.Bool.{Bool, true, _&&_, cond}
 use mathlib.Core.List.{List, [], _∷_}
 use lib.Dec.{ltb}
+use lib.ListN.{length}
 use Rattle.slices.specs.Slices.{_!_, tabulate}
 use Rattle.field.specs.Ops.{Ops}
 
 -- "A vector is held by value in 96 bytes, zero beyond its length."
 unfoldable pub vector : ℕ → (ℕ → ℕ) → List ℕ
 vector n f = tabulate 96 (λ i. cond (ltb i n) (f i) 0)
+
+-- a list as a vector
+abbrev pub held : List ℕ → List ℕ
+held l = vector (length l) (λ i. l ! i)
 
 -- the vector of n elements that stands in a list from a place on
 unfoldable pub slotV : ℕ → ℕ → List ℕ → List ℕ

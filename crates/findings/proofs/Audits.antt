@@ -1,11 +1,12 @@
 -- Demand 3's first half for both audits: the laws of each scheme, and the claims. Assumes nothing.
 use Prim.Native.Nat.{ℕ, zero, suc, _≤_, _<_}
 use mathlib.Core.Path.{_≡_, refl, sym, ap₂, subst, _∙_}
-use mathlib.Core.Bool.{Bool, true, false, cond}
+use mathlib.Core.Bool.{true}
 use mathlib.Core.Logic.{_⊎_, inl, inr, ⊎-elim}
 use mathlib.Core.List.{List, [], _∷_}
 use native.Mathlib.Omega.{arith}
 use lib.Dec.{eqb}
+use Rattle.slices.proofs.Booleans.{either}
 use Rattle.slices.proofs.Sameness.{same-true}
 use Rattle.system.specs.System.{nOf, mOf, F, systemRefusal}
 use Rattle.system.proofs.SystemLayout.{accepted}
@@ -16,7 +17,7 @@ use Rattle.comparable.proofs.Front.{Front}
 use Rattle.openings.specs.Openings.{openingIn, compared, sameOpenings, secretOf}
 use Rattle.full_set.specs.FullSet.{answering, fullSet}
 use Rattle.clash.specs.Clash.{lowerChallenge, higherChallenge, leftRecord, rightRecord, samePair, pairs}
-use Rattle.audit.specs.Audit.{auditThree, auditFive}
+use Rattle.auditing.specs.Audit.{auditThree, auditFive}
 use Rattle.findings.specs.Findings.{Auditable, AllAccepted, FullThree, FullFive, Among, OrderThree, OrderFive, Scheme, threePass, fivePass, Each, none-left, each, Claim}
 use Rattle.findings.proofs.Comparing.{auditable, readable, alike, fitting, alike-itself}
 use Rattle.findings.proofs.Rejecting.{three-walk, five-walk}
@@ -32,6 +33,22 @@ each-first P b bs (each _ _ p rest) = p
 
 each-rest : (P : List ℕ → Type 0) (b : List ℕ) (bs : List (List ℕ)) → Each P (b ∷ bs) → Each P bs
 each-rest P b bs (each _ _ p rest) = rest
+
+-- nothing is refused of auditable records before their rounds are judged
+front-by : (scheme : ℕ) (system a b c d : List ℕ) → systemRefusal system ≡ 0 → Auditable scheme system a a → Auditable scheme system a b → Auditable scheme system a c →
+    Auditable scheme system a d → Front scheme system a b c d
+front-by scheme system a b c d good ka kb kc kd =
+    record {
+      good = good;
+      read-a = readable scheme system a a ka;
+      read-b = readable scheme system a b kb;
+      read-c = readable scheme system a c kc;
+      read-d = readable scheme system a d kd;
+      fit = fitting scheme system a ka;
+      same-b = alike scheme system a b ka kb;
+      same-c = alike scheme system a c ka kc;
+      same-d = alike scheme system a d ka kd;
+    }
 
 -- the openings that are compared agree
 pub same-compared : (scheme : ℕ) (system a b c d : List ℕ) (r k : ℕ) → samePair scheme system a b c d r k ≡ true →
@@ -71,15 +88,21 @@ asked a b c r full = go (answered-all a b c r (full-three a b c r full))
     go all (suc (suc (suc j))) h = absurd (omega arith)
 
 module _ (system a b c : List ℕ) where
-  -- what holds of each record holds of the one that answers a challenge
+  -- something holds of each of the three
+  three : (P : List ℕ → Type 0) → Each P (a ∷ b ∷ c ∷ []) → P a × P b × P c
+  three P all =
+      let after-a = each-rest P a (b ∷ c ∷ []) all in
+      let after-b = each-rest P b (c ∷ []) after-a in
+      (each-first P a (b ∷ c ∷ []) all, each-first P b (c ∷ []) after-a, each-first P c [] after-b)
+
+  -- so it does of the one that answers a challenge
   answering-has : (P : List ℕ → Type 0) → Each P (a ∷ b ∷ c ∷ []) → (r j : ℕ) → P (answering a b c r j)
   answering-has P all r j =
-      let rest = each-rest P a (b ∷ c ∷ []) all in
-      let last = each-rest P b (c ∷ []) rest in
-      ⊎-elim (λ (e : answering a b c r j ≡ a). subst P (sym e) (each-first P a (b ∷ c ∷ []) all))
+      let has = three P all in
+      ⊎-elim (λ (e : answering a b c r j ≡ a). subst P (sym e) (has .0))
       (λ (others : (answering a b c r j ≡ b) ⊎ (answering a b c r j ≡ c)).
-      ⊎-elim (λ (e : answering a b c r j ≡ b). subst P (sym e) (each-first P b (c ∷ []) rest))
-      (λ (e : answering a b c r j ≡ c). subst P (sym e) (each-first P c [] last)) others) (answering-among a b c r j)
+      ⊎-elim (λ (e : answering a b c r j ≡ b). subst P (sym e) (has .1)) (λ (e : answering a b c r j ≡ c). subst P (sym e) (has .2)) others)
+      (answering-among a b c r j)
 
   answering-sound : AllSound (threePass system a b c) → (r j : ℕ) → Sound 3 system a (answering a b c r j)
   unfolding threePass
@@ -101,7 +124,9 @@ module _ (system a b c : List ℕ) where
         front-tells = λ k.
             each a _ (auditable 3 system a a (k .read-a) (k .fit) (alike-itself a))
             (each b _ (auditable 3 system a b (k .read-b) (k .fit) (k .same-b)) (each c _ (auditable 3 system a c (k .read-c) (k .fit) (k .same-c)) none-left));
-        front-when = front-when-three;
+        front-when = λ good all.
+            let k = three (Auditable 3 system a) all in
+            front-by 3 system a b c c good (k .0) (k .1) (k .2) (k .2);
         walked = three-walk system a b c c;
         full-tells = λ r e. three-full a b c r (sym (set-three a b c c r) ∙ e);
         full-when = λ r full. set-three a b c c r ∙ full-three a b c r full;
@@ -119,25 +144,6 @@ module _ (system a b c : List ℕ) where
         right-opened = λ s r k full h. let o = openers k h in answering-opened s r k (higherChallenge k) full h (o .high) (o .high-other);
       }
     where
-      front-when-three : systemRefusal system ≡ 0 → Each (Auditable 3 system a) (a ∷ b ∷ c ∷ []) → Front 3 system a b c c
-      front-when-three good all =
-          let P = Auditable 3 system a in
-          let rest = each-rest P a (b ∷ c ∷ []) all in
-          let ka = each-first P a (b ∷ c ∷ []) all in
-          let kb = each-first P b (c ∷ []) rest in
-          let kc = each-first P c [] (each-rest P b (c ∷ []) rest) in
-          record {
-            good = good;
-            read-a = readable 3 system a a ka;
-            read-b = readable 3 system a b kb;
-            read-c = readable 3 system a c kc;
-            read-d = readable 3 system a c kc;
-            fit = fitting 3 system a ka;
-            same-b = alike 3 system a b ka kb;
-            same-c = alike 3 system a c ka kc;
-            same-d = alike 3 system a c ka kc;
-          }
-
       secret-solves-three : AllSound (threePass system a b c) → (r : ℕ) → r < headerIn a .rounds → FullThree a b c r →
           ((k : ℕ) → k < pairs 3 → samePair 3 system a b c c r k ≡ true) → F system (secretOf system (answering a b c r 0) (answering a b c r 1) r) ≡ keyVector a
       secret-solves-three s r h full same =
@@ -153,10 +159,6 @@ module _ (system a b c : List ℕ) where
   audit-three-claim = audit-claim (threePass system a b c) b c c three-laws
 
 -- ---- five passes
-
-either : (P : List ℕ → Type 0) (t : Bool) (x y : List ℕ) → P x → P y → P (cond t x y)
-either P true x y px py = px
-either P false x y px py = py
 
 module _ (system a b c d : List ℕ) where
   -- a full set has challenge 0 in A and 1 in B
@@ -232,21 +234,6 @@ module _ (system a b c d : List ℕ) where
       five-secret system a b c d r good (s .of-a .auditable) (s .of-b .auditable) (s .of-c .auditable) (s .of-d .auditable) h (within 5 system a c r (s .of-c .auditable) h) full
       (same-compared 5 system a b c d r 0 (same 0 (omega arith))) (same-compared 5 system a b c d r 1 (same 1 (omega arith)))
 
-  front-when-five : systemRefusal system ≡ 0 → Each (Auditable 5 system a) (a ∷ b ∷ c ∷ d ∷ []) → Front 5 system a b c d
-  front-when-five good all =
-      let k = four (Auditable 5 system a) all in
-      record {
-        good = good;
-        read-a = readable 5 system a a (k .0);
-        read-b = readable 5 system a b (k .1);
-        read-c = readable 5 system a c (k .2);
-        read-d = readable 5 system a d (k .3);
-        fit = fitting 5 system a (k .0);
-        same-b = alike 5 system a b (k .0) (k .1);
-        same-c = alike 5 system a c (k .0) (k .2);
-        same-d = alike 5 system a d (k .0) (k .3);
-      }
-
   five-laws : Laws (fivePass system a b c d) b c d
   unfolding fivePass pairs
   five-laws =
@@ -255,7 +242,9 @@ module _ (system a b c d : List ℕ) where
             each a _ (auditable 5 system a a (k .read-a) (k .fit) (alike-itself a))
             (each b _ (auditable 5 system a b (k .read-b) (k .fit) (k .same-b))
             (each c _ (auditable 5 system a c (k .read-c) (k .fit) (k .same-c)) (each d _ (auditable 5 system a d (k .read-d) (k .fit) (k .same-d)) none-left)));
-        front-when = front-when-five;
+        front-when = λ good all.
+            let k = four (Auditable 5 system a) all in
+            front-by 5 system a b c d good (k .0) (k .1) (k .2) (k .3);
         walked = five-walk system a b c d;
         full-tells = λ r e. five-full a b c d r (sym (set-five a b c d r) ∙ e);
         full-when = λ r full. set-five a b c d r ∙ full-five a b c d r full;

@@ -11,9 +11,9 @@ use borrow.Author.Tests.{eq-eqb}
 use Rattle.slices.specs.Slices.{same}
 use Rattle.slices.proofs.Sameness.{same-true, same-by, same-refl}
 use Rattle.refusal.specs.Refusal.{unless, _orElse_, firstOf}
-use Rattle.refusal.proofs.Refusals.{first-zero, later-zero, test-holds, equal-holds, both-zero, unless-holds}
+use Rattle.refusal.proofs.Refusals.{first-zero, later-zero, test-holds, equal-holds, both-zero, unless-holds, unless-most, orElse-most, firstOf-most}
 use Rattle.system.specs.System.{hasSizes, systemRefusal}
-use Rattle.system.proofs.SystemLayout.{has-sizes, sizes-has}
+use Rattle.system.proofs.SystemLayout.{has-sizes, sizes-has, system-most}
 use Rattle.record.specs.declared.layout.Header.{Header}
 use Rattle.record.specs.declared.form.Check.the-variants.{FileOrder}
 use Rattle.record.specs.Record.{head, written, WellFormedRecord}
@@ -86,65 +86,43 @@ alike-itself a =
 
 -- ---- the numbers
 
-choice-number : (t : Bool) (x y : ℕ) → x ≤ 7 → y ≤ 7 → cond t x y ≤ 7
-choice-number true x y hx hy = hx
-choice-number false x y hx hy = hy
-
-unless-number : (t : Bool) (k : ℕ) → T (leb k 7) → unless t k ≤ 7
-unfolding unless
-unless-number t k h = choice-number t 0 k (omega arith) (leb→le k 7 h)
-
-orElse-number : (x y : ℕ) → x ≤ 7 → y ≤ 7 → (x orElse y) ≤ 7
-unfolding _orElse_
-orElse-number x y hx hy = choice-number (eqb x 0) y x hy hx
-
-firstOf-number : (n : ℕ) (f : ℕ → ℕ) → ((i : ℕ) → f i ≤ 7) → firstOf n f ≤ 7
-unfolding firstOf
-firstOf-number zero f each = omega arith
-firstOf-number (suc n) f each = orElse-number _ _ (firstOf-number n f each) (each n)
-
-system-number : (b : List ℕ) → systemRefusal b ≤ 7
-unfolding systemRefusal
-system-number b =
-    orElse-number _ _ (unless-number _ 2 tt) (orElse-number _ _ (unless-number _ 1 tt) (orElse-number _ _ (unless-number _ 2 tt) (unless-number _ 3 tt)))
-
 exchange-number : (h : Header) (x : List ℕ) → exchangeRefusal FileOrder h x ≤ 7
 unfolding exchangeRefusal
-exchange-number h x = orElse-number _ _ (unless-number _ 3 tt) (orElse-number _ _ (unless-number _ 4 tt) (unless-number _ 3 tt))
+exchange-number h x = orElse-most _ _ 7 (unless-most _ 3 7 tt) (orElse-most _ _ 7 (unless-most _ 4 7 tt) (unless-most _ 3 7 tt))
 
 exchanges-number : (h : Header) (exchanges : List ℕ) → exchangesRefusal FileOrder h exchanges ≤ 7
 unfolding exchangesRefusal
-exchanges-number h exchanges = firstOf-number (h .rounds) _ (λ r. exchange-number h _)
+exchanges-number h exchanges = firstOf-most (h .rounds) _ 7 (λ r. exchange-number h _)
 
 record-number : (b : List ℕ) → recordRefusal b ≤ 7
 unfolding recordRefusal
 record-number b =
-    orElse-number _ _ (unless-number _ 6 tt)
-    (orElse-number _ _ (unless-number _ 6 tt)
-    (orElse-number _ _ (unless-number _ 1 tt)
-    (orElse-number _ _ (unless-number _ 6 tt)
-    (orElse-number _ _ (unless-number _ 6 tt)
-    (orElse-number _ _ (unless-number _ 3 tt) (exchanges-number _ _))))))
+    orElse-most _ _ 7 (unless-most _ 6 7 tt)
+    (orElse-most _ _ 7 (unless-most _ 6 7 tt)
+    (orElse-most _ _ 7 (unless-most _ 1 7 tt)
+    (orElse-most _ _ 7 (unless-most _ 6 7 tt)
+    (orElse-most _ _ 7 (unless-most _ 6 7 tt)
+    (orElse-most _ _ 7 (unless-most _ 3 7 tt) (exchanges-number _ _))))))
 
 audited-number : (scheme : ℕ) (b : List ℕ) → auditedRefusal scheme b ≤ 7
 unfolding auditedRefusal
-audited-number scheme b = orElse-number _ _ (record-number b) (unless-number _ 1 tt)
+audited-number scheme b = orElse-most _ _ 7 (record-number b) (unless-most _ 1 7 tt)
 
 fit-number : (system b : List ℕ) → fitRefusal system b ≤ 7
 unfolding fitRefusal
-fit-number system b = unless-number _ 7 tt
+fit-number system b = unless-most _ 7 7 tt
 
 difference-number : (a b : List ℕ) → differenceRefusal a b ≤ 7
 unfolding differenceRefusal
-difference-number a b = orElse-number _ _ (unless-number _ 7 tt) (orElse-number _ _ (unless-number _ 7 tt) (unless-number _ 7 tt))
+difference-number a b = orElse-most _ _ 7 (unless-most _ 7 7 tt) (orElse-most _ _ 7 (unless-most _ 7 7 tt) (unless-most _ 7 7 tt))
 
 pub front-number : (scheme : ℕ) (system a b c d : List ℕ) → frontRefusal scheme system a b c d ≤ 7
 unfolding frontRefusal
 front-number scheme system a b c d =
-    orElse-number _ _ (system-number system)
-    (orElse-number _ _ (audited-number scheme a)
-    (orElse-number _ _ (audited-number scheme b)
-    (orElse-number _ _ (audited-number scheme c)
-    (orElse-number _ _ (audited-number scheme d)
-    (orElse-number _ _ (fit-number system a)
-    (orElse-number _ _ (difference-number a b) (orElse-number _ _ (difference-number a c) (difference-number a d))))))))
+    orElse-most _ _ 7 (system-most system 7 tt)
+    (orElse-most _ _ 7 (audited-number scheme a)
+    (orElse-most _ _ 7 (audited-number scheme b)
+    (orElse-most _ _ 7 (audited-number scheme c)
+    (orElse-most _ _ 7 (audited-number scheme d)
+    (orElse-most _ _ 7 (fit-number system a)
+    (orElse-most _ _ 7 (difference-number a b) (orElse-most _ _ 7 (difference-number a c) (difference-number a d))))))))

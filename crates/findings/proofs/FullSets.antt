@@ -8,13 +8,11 @@ use native.Mathlib.Omega.{arith}
 use borrow.Author.Tests.{eqb-true, eqb-false, eq-eqb, ne-eqb, not-true}
 use lib.Dec.{eqb}
 use Rattle.slices.specs.Slices.{_!_, same}
-use Rattle.slices.proofs.Sameness.{and-left, and-right, same-true, same-by}
+use Rattle.slices.proofs.Booleans.{and-left, and-right, and-both}
+use Rattle.slices.proofs.Sameness.{same-true, same-by}
 use Rattle.transcript.specs.Transcript.{roundMiddle, roundChallenge}
 use Rattle.full_set.specs.FullSet.{answering, answered, fullThree, askedBoth, fullFive, fullSet}
 use Rattle.findings.specs.Findings.{FullThree, FullFive, Among}
-
-pub both : (x y : Bool) → x ≡ true → y ≡ true → (x && y) ≡ true
-both x y e f = rw (e, f)
 
 -- ---- three passes
 
@@ -90,13 +88,10 @@ three-full a b c r e = go
 pub full-three : (a b c : List ℕ) (r : ℕ) → FullThree a b c r → fullThree a b c r ≡ true
 unfolding fullThree
 full-three a b c r full =
-    both _ _ (answered-when-asked a b c r 0 (full 0 (omega arith)))
-    (both _ _ (answered-when-asked a b c r 1 (full 1 (omega arith))) (answered-when-asked a b c r 2 (full 2 (omega arith))))
+    and-both _ _ (answered-when-asked a b c r 0 (full 0 (omega arith)))
+    (and-both _ _ (answered-when-asked a b c r 1 (full 1 (omega arith))) (answered-when-asked a b c r 2 (full 2 (omega arith))))
 
 -- ---- five passes
-
-not-false : (t : Bool) → t ≡ false → not t ≡ true
-not-false t e = ap not e
 
 -- challenges 0 and 1 after the same middle
 record Both (x y : List ℕ) (r : ℕ) : Type 0 where
@@ -137,9 +132,9 @@ five-full a b c d r e =
 pub full-five : (a b c d : List ℕ) (r : ℕ) → FullFive a b c d r → fullFive a b c d r ≡ true
 unfolding fullFive askedBoth
 full-five a b c d r k =
-    both _ _ (both _ _ (eq-eqb _ _ (k .a-challenge)) (both _ _ (eq-eqb _ _ (k .b-challenge)) (same-by _ _ (k .ab-middle))))
-    (both _ _ (both _ _ (eq-eqb _ _ (k .c-challenge)) (both _ _ (eq-eqb _ _ (k .d-challenge)) (same-by _ _ (k .cd-middle))))
-    (not-false _ (ne-eqb _ _ (k .other-alpha))))
+    and-both _ _ (and-both _ _ (eq-eqb _ _ (k .a-challenge)) (and-both _ _ (eq-eqb _ _ (k .b-challenge)) (same-by _ _ (k .ab-middle))))
+    (and-both _ _ (and-both _ _ (eq-eqb _ _ (k .c-challenge)) (and-both _ _ (eq-eqb _ _ (k .d-challenge)) (same-by _ _ (k .cd-middle))))
+    (ap not (ne-eqb _ _ (k .other-alpha))))
 
 -- ---- the scheme chooses
 

@@ -1,7 +1,7 @@
 -- The claim about an audit from the laws of its scheme, which are said here as well. Assumes nothing.
 use Prim.Native.Nat.{ℕ, zero, suc, _+_, _-_, _*_, _≤_, _<_}
 use mathlib.Core.Path.{_≡_, refl, sym, ap, ap₂, subst, _∙_}
-use mathlib.Core.Bool.{Bool, true, false, not, cond}
+use mathlib.Core.Bool.{true, false, false≢true, not}
 use mathlib.Core.Logic.{inl, inr}
 use mathlib.Core.List.{List, [], _∷_}
 use native.Mathlib.Omega.{arith}
@@ -26,9 +26,9 @@ use Rattle.comparable.proofs.Front.{Front, front, none-refused}
 use Rattle.openings.specs.Openings.{openingIn, compared, sameOpenings, secretOf}
 use Rattle.full_set.specs.FullSet.{answering, fullSet, firstFull}
 use Rattle.clash.specs.Clash.{leftRecord, rightRecord, samePair, pairs, firstClash}
-use Rattle.audit.specs.Outcome.{Outcome, refused}
-use Rattle.audit.specs.Audit.{secretAt, clashAt, findingAt, searchOf, auditOf}
-use Rattle.audit.proofs.Outcomes.{finding-secret, finding-clash, search-none, search-found, audit-refused, audit-rejected, audit-searched}
+use Rattle.auditing.specs.Outcome.{Outcome, refused}
+use Rattle.auditing.specs.Audit.{secretAt, clashAt, findingAt, searchOf, auditOf}
+use Rattle.auditing.proofs.Outcomes.{finding-secret, finding-clash, search-none, search-found, audit-refused, audit-rejected, audit-searched}
 use Rattle.findings.specs.Findings.{Auditable, AllAccepted, Each, Scheme, Due, TrueClash, Right, IsFinding, Claim}
 use Rattle.findings.proofs.Comparing.{front-number}
 use Rattle.findings.proofs.Rejecting.{walk, all-accepted, none-rejected, first-rejected}
@@ -80,12 +80,9 @@ hashes-first scheme system a b r k x s within o =
     let below : r < headerIn b .rounds = subst (λ (h : Header). r < h .rounds) (s .auditable .same-header) within in
     o .hashes (s .accepted r below) ∙ ap (λ (l : List ℕ). commitment (commitmentsIn l) k) (same-commitments scheme system a b r (s .auditable))
 
-true-not-false : true ≡ false → ⊥
-true-not-false e = let one : _≡_ {A = ℕ} 1 0 = ap (λ (t : Bool). cond t 1 0) e in omega (arith, one)
-
 differ-compared : (x y : List ℕ) → sameOpenings x y ≡ false → compared x ≡ compared y → ⊥
 unfolding sameOpenings
-differ-compared x y differ e = true-not-false (sym (same-by (compared x) (compared y) e) ∙ differ)
+differ-compared x y differ e = false≢true (sym differ ∙ same-by (compared x) (compared y) e)
 
 module _ (t : Scheme) (b c d : List ℕ) (laws : Laws t b c d) where
   abbrev scheme : ℕ
@@ -136,7 +133,7 @@ module _ (t : Scheme) (b c d : List ℕ) (laws : Laws t b c d) where
         round = r;
         round-in = used .within;
         full = full;
-        first-full = λ j h earlier. true-not-false (sym (laws .full-when j earlier) ∙ used .before j h);
+        first-full = λ j h earlier. false≢true (sym (used .before j h) ∙ laws .full-when j earlier);
         left = leftRecord scheme a b c r k;
         right = rightRecord scheme a b c d r k;
         order = laws .pair-order r k full (differs .within);
@@ -178,7 +175,7 @@ module _ (t : Scheme) (b c d : List ℕ) (laws : Laws t b c d) where
       go zero none =
           subst (Claim t) (search-none scheme system a b c d 0 (sym none) refl)
           (record {
-            found-when-due = λ q. true-not-false (sym (laws .full-when (q .round) (q .full)) ∙ where-none (headerIn a .rounds) _ none (q .round) (q .round-in));
+            found-when-due = λ q. false≢true (sym (where-none (headerIn a .rounds) _ none (q .round) (q .round-in)) ∙ laws .full-when (q .round) (q .full));
             due-when-found = λ q. absurd q;
             right = inr (λ e. omega (arith, e), refl, refl);
           })

@@ -10,7 +10,8 @@ use lib.Dec.{eqb}
 use lib.ListN.{length, take, drop, length-append, length-take}
 use lib.Seq.{drop-append-seam, take-all}
 use Rattle.slices.specs.Slices.{_!_, same}
-use Rattle.slices.proofs.Sameness.{and-left, and-right, same-true}
+use Rattle.slices.proofs.Booleans.{and-left, and-right}
+use Rattle.slices.proofs.Sameness.{same-true}
 use Rattle.sha256.specs.Sha256.{sha256}
 use Rattle.commitment.specs.declared.Domain.{Domain}
 use Rattle.commitment.specs.Commitment.{prefix, hashedString}

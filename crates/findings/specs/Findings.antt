@@ -19,7 +19,7 @@ use Rattle.exchange.specs.Messages.{commitmentsIn, middleIn, replyThreeIn, repl
 use Rattle.record.specs.Record.{WellFormedRecord}
 use Rattle.record.specs.Reader.{headerIn, fieldsIn}
 use Rattle.transcript.specs.Transcript.{keyVector, roundCommitments, roundMiddle, roundChallenge, roundReply, acceptedRound}
-use Rattle.audit.specs.Outcome.{Outcome, secret, clash, refused}
+use Rattle.auditing.specs.Outcome.{Outcome, secret, clash, refused}
 
 -- ---- when
 

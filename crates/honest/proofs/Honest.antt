@@ -9,6 +9,7 @@ use native.Mathlib.Omega.{arith}
 use lib.Dec.{eqb}
 use lib.ListN.{length, take, List·getD-eq-default}
 use lib.Seq.{getD-take}
+use Rattle.slices.proofs.Booleans.{either}
 use Rattle.slices.specs.Slices.{_!_, tabulate}
 use Rattle.field.specs.Vector.{vector, slotV, allBelow}
 use Rattle.field.proofs.Modulus.{size-of}
@@ -37,10 +38,6 @@ use Rattle.exchange.proofs.ReadBack.{length-bytes, reads-vector, reads-tabulate
 use Rattle.exchange.proofs.ReadBack.{length-three-commitments, length-five-commitments, three-commitments-back, five-commitments-back}
 use Rattle.exchange.proofs.ReadBack.{reply-three-length, reply-three-back, reply-three-below, reply-five-length, reply-five-back, reply-five-below}
 use Rattle.exchange.proofs.ReadBack.{middle-length, middle-back, middle-below}
-
-either : {A : Type 0} (P : A → Type 0) (c : Bool) (x y : A) → P x → P y → P (cond c x y)
-either P true x y hx hy = hx
-either P false x y hx hy = hy
 
 -- the first k of a list are elements; beyond the list's end there is the element 0
 front-below : (q k : ℕ) (l : List ℕ) → 0 < q → allBelow q (take k l) ≡ true → (i : ℕ) → i < k → l ! i < q

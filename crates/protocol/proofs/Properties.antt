@@ -5,14 +5,11 @@ use mathlib.Core.Path.{_≡_, refl, sym, ap, ap₂, _∙_}
 use mathlib.Core.Bool.{Bool, true, false, cond}
 use native.Mathlib.Omega.{arith}
 use lib.Dec.{eqb}
+use Rattle.slices.proofs.Booleans.{either}
 use Rattle.protocol.specs.Structure.{QuadraticOps, QuadraticMap}
 use Rattle.protocol.specs.Protocols.{AreElements, r1Of, t1Of, e1Of, masked, t0Of, e0Of, unmasked, cardThree, OpensThree, AgreeThree}
 use Rattle.protocol.specs.Protocols.{t1By, e1By, t0By, e0By, unmaskedBy, cardFive, OpensFive, AgreeFive, simulatedE1, simulatedMask, simulated}
 use Rattle.protocol.proofs.Groups.{add-left-comm, sub-of, of-sub, sub-sub, sub-two, of-sub-two, same-difference}
-
-either-is : {A : Type 0} (P : A → Type 0) (c : Bool) (a b : A) → P a → P b → P (cond c a b)
-either-is P true a b ha hb = ha
-either-is P false a b ha hb = hb
 
 module _ {X Y S : Type 0} {o : QuadraticOps X Y S} {IsX : X → Type 0} {IsY : Y → Type 0} {IsScalar : S → Type 0} (k : QuadraticMap o IsX IsY IsScalar) where
   open QuadraticOps o using (addX, subX, mulX, addY, subY, mulY, F, G)
@@ -177,5 +174,5 @@ module _ {X Y S : Type 0} {o : QuadraticOps X Y S} {IsX : X → Type 0} {IsY : Y
       AreElements IsX IsY (simulated o guess v s′ r0 t0 e0)
   unfolding simulated simulatedE1 simulatedMask r1Of t1Of e1Of masked unmasked
   are-elements-simulated guess v s′ r0 t0 e0 hr ht he =
-      formed s′ r0 r0 t0 e0 _ _ hr ht he (either-is IsY (eqb guess 0) _ _ (k .groupY .sub-is _ _) (k .groupY .sub-is _ _))
-      (either-is IsY (eqb guess 2) _ _ (k .groupY .sub-is _ _) (k .groupY .add-is _ _))
+      formed s′ r0 r0 t0 e0 _ _ hr ht he (either IsY (eqb guess 0) _ _ (k .groupY .sub-is _ _) (k .groupY .sub-is _ _))
+      (either IsY (eqb guess 2) _ _ (k .groupY .sub-is _ _) (k .groupY .add-is _ _))

@@ -1,12 +1,12 @@
 -- What a chain of refusals tells where it comes to 0, and what it is where a test decides. Assumes nothing.
-use Prim.Native.Nat.{ℕ, zero, suc, _+_, _<_}
+use Prim.Native.Nat.{ℕ, zero, suc, _+_, _≤_, _<_}
 use mathlib.Core.Path.{_≡_, refl, ap, ap₂, _∙_}
 use mathlib.Core.Bool.{Bool, true, false, cond}
 use mathlib.Core.Logic.{⊎-elim}
 use native.Mathlib.Nat.{not-suc-le-zero, eq-or-lt-of-le, le-of-suc-le-suc, le-refl}
 use native.Mathlib.Numerals.{add-one}
 use native.Mathlib.Omega.{arith}
-use lib.Dec.{T, eqb, ltb}
+use lib.Dec.{T, eqb, ltb, leb, leb→le}
 use borrow.Author.Tests.{eqb-true, ne-eqb}
 use Rattle.refusal.specs.Refusal.{unless, _orElse_, firstOf, kept}
 
@@ -94,3 +94,22 @@ first-decides a b some = simp (ne-eqb a 0 some)
 pub later-decides : (a b : ℕ) → a ≡ 0 → (a orElse b) ≡ b
 unfolding _orElse_
 later-decides a b none = rw none
+
+-- ---- the largest number in a chain
+
+choice-most : (t : Bool) (x y most : ℕ) → x ≤ most → y ≤ most → cond t x y ≤ most
+choice-most true x y most hx hy = hx
+choice-most false x y most hx hy = hy
+
+pub unless-most : (test : Bool) (k most : ℕ) → T (leb k most) → unless test k ≤ most
+unfolding unless
+unless-most test k most h = choice-most test 0 k most (omega arith) (leb→le k most h)
+
+pub orElse-most : (a b most : ℕ) → a ≤ most → b ≤ most → (a orElse b) ≤ most
+unfolding _orElse_
+orElse-most a b most ha hb = choice-most (eqb a 0) b a most hb ha
+
+pub firstOf-most : (n : ℕ) (refusal : ℕ → ℕ) (most : ℕ) → ((i : ℕ) → refusal i ≤ most) → firstOf n refusal ≤ most
+unfolding firstOf
+firstOf-most zero refusal most each = omega arith
+firstOf-most (suc n) refusal most each = orElse-most _ _ most (firstOf-most n refusal most each) (each n)

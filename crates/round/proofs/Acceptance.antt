@@ -6,6 +6,7 @@ use mathlib.Core.List.{List, _++_}
 use native.Mathlib.Omega.{arith}
 use lib.ListN.{take}
 use Rattle.slices.specs.Slices.{same}
+use Rattle.slices.proofs.Booleans.{and-both}
 use Rattle.slices.proofs.Sameness.{same-by}
 use Rattle.sha256.specs.Sha256.{sha256}
 use Rattle.commitment.specs.Commitment.{hashedString, Com}
@@ -20,22 +21,19 @@ use Rattle.round.specs.Pieces.{commitment}
 use Rattle.round.specs.ThreePass.{three, commitmentsThree, replyThree, openedFirst, openedSecond, firstNumber, secondNumber, firstString, secondString, acceptsThree}
 use Rattle.round.specs.FivePass.{five, commitmentsFive, replyFive, openingFive, acceptsFive}
 
-both : (a b : Bool) → a ≡ true → b ≡ true → (a && b) ≡ true
-both a b e f = rw (e, f)
-
 module _ (b v : List ℕ) (ρ : Rhos) where
   -- the reply to each challenge, from vectors that open as they were committed to
   opened-three : (w : P.Vectors (List ℕ) (List ℕ)) (challenge : ℕ) → challenge ≤ 2 → OpensThree (mapOf b) v w challenge →
       acceptsThree b v (commitmentsThree (nOf b) (mOf b) w ρ) challenge (replyThree w ρ challenge) ≡ true
   unfolding acceptsThree commitmentsThree replyThree firstString secondString firstNumber secondNumber openedFirst openedSecond commitment Com t0Of mapOf
   opened-three w zero h o =
-      both _ _
+      and-both _ _
       (same-by _ _ (ap₂ (λ (x y : List ℕ). Com three 1 (ρ .rho1) (take (nOf b) x ++ take (mOf b) y)) (o .zero-t refl) (o .zero-e refl)))
       (same-by _ _ refl)
   opened-three w (suc zero) h o =
-      both _ _ (same-by _ _ (ap (λ (y : List ℕ). Com three 0 (ρ .rho0) (take (nOf b) (w .r1) ++ take (mOf b) y)) (o .one refl))) (same-by _ _ refl)
+      and-both _ _ (same-by _ _ (ap (λ (y : List ℕ). Com three 0 (ρ .rho0) (take (nOf b) (w .r1) ++ take (mOf b) y)) (o .one refl))) (same-by _ _ refl)
   opened-three w (suc (suc zero)) h o =
-      both _ _ (same-by _ _ (ap (λ (y : List ℕ). Com three 0 (ρ .rho0) (take (nOf b) (w .r1) ++ take (mOf b) y)) (o .two refl))) (same-by _ _ refl)
+      and-both _ _ (same-by _ _ (ap (λ (y : List ℕ). Com three 0 (ρ .rho0) (take (nOf b) (w .r1) ++ take (mOf b) y)) (o .two refl))) (same-by _ _ refl)
   opened-three w (suc (suc (suc k))) h o = absurd (omega arith)
 
   opened-five : (α : ℕ) (s r0 t0 e0 : List ℕ) (challenge : ℕ) → challenge ≤ 1 → OpensFive (mapOf b) α v (cardFive (mapOf b) α s r0 t0 e0) challenge →

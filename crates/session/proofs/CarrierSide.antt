@@ -14,7 +14,7 @@ use borrow.Author.Tests.{eqb-true, eq-eqb, ne-eqb, lt-ltb, le-ltb, ltb-true}
 use Rattle.slices.specs.Slices.{_!_, tabulate, zeros}
 use Rattle.slices.proofs.Tabulate.{tabulate-at}
 use Rattle.refusal.proofs.Refusals.{first-zero, later-zero, test-holds, both-zero, unless-holds}
-use Rattle.field.specs.Vector.{vector, allBelow}
+use Rattle.field.specs.Vector.{vector, held, allBelow}
 use Rattle.system.specs.System.{qOf, nOf, mOf, systemRefusal, F}
 use Rattle.system.proofs.SystemLayout.{at-all-below, sizes-has}
 use Rattle.scheme.specs.Scheme.{isScheme, challenges, commitmentsLength, vectorsLength, replyLength}
@@ -28,7 +28,7 @@ use Rattle.session_state.proofs.States.{state-due, due-state, count-below}
 use Rattle.carrier.specs.declared.session.CarrierPhase.{CarrierPhase}
 use Rattle.carrier.specs.declared.session.CarrierPhase.the-variants.{TakeCommitments, SetAlpha, TakeMiddle, SetChallenge, TakeReply}
 use Rattle.carrier.specs.declared.session.Carrier.{Carrier}
-use Rattle.carrier.specs.Carrier.{phaseNumber, closedCarrier, carrierWith, held, heldMiddle, openedCarrier, commitmentsRefusal, withCommitments, alphaRefusal, withAlpha, middleRefusal, withMiddle, challengeRefusal, withChallenge, replyRefusal, acceptsReply, judgedCarrier}
+use Rattle.carrier.specs.Carrier.{phaseNumber, closedCarrier, carrierWith, heldMiddle, openedCarrier, commitmentsRefusal, withCommitments, alphaRefusal, withAlpha, middleRefusal, withMiddle, challengeRefusal, withChallenge, replyRefusal, acceptsReply, judgedCarrier}
 use Rattle.session.specs.Session.{Opening, Given, Asked, World, Middle, none-sent, sent, put, carrierMoves}
 use Rattle.session.proofs.Logs.{Clear, none-given, same-message, put-there, put-stays, put-clear, clear-next, given-before}
 use Rattle.session.proofs.CardSide.{by-scheme}

@@ -8,7 +8,7 @@ use native.Mathlib.Nat.{add-zero, add-assoc}
 use native.Mathlib.Omega.{arith}
 use lib.Dec.{eqb, leb, ltb}
 use borrow.Author.Tests.{eqb-true, eqb-false, leb-true, ltb-true, lt-ltb, ne-eqb}
-use Rattle.slices.proofs.Sameness.{and-left, and-right}
+use Rattle.slices.proofs.Booleans.{and-left, and-right}
 use Rattle.refusal.specs.Refusal.{kept}
 use Rattle.refusal.proofs.Refusals.{first-zero, later-zero, test-holds, kept-accepted, kept-refused}
 use Rattle.scheme.specs.Scheme.{isRounds}

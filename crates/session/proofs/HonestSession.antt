@@ -7,7 +7,7 @@ use native.Mathlib.Nat.{not-suc-le-zero, le-refl}
 use native.Mathlib.Omega.{arith}
 use lib.Dec.{eqb, leb}
 use borrow.Author.Tests.{eqb-true, eqb-false, leb-true}
-use Rattle.slices.proofs.Sameness.{and-left, and-right}
+use Rattle.slices.proofs.Booleans.{and-left, and-right}
 use Rattle.refusal.specs.Refusal.{kept}
 use Rattle.refusal.proofs.Refusals.{kept-accepted, kept-refused}
 use Rattle.scheme.specs.Scheme.{isRounds}

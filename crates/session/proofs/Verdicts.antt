@@ -12,7 +12,7 @@ use lib.ListN.{length}
 use borrow.Author.Tests.{eqb-true, ne-eqb}
 use Rattle.slices.specs.Slices.{_!_, tabulate, zeros}
 use Rattle.refusal.proofs.Refusals.{first-zero}
-use Rattle.field.specs.Vector.{vector}
+use Rattle.field.specs.Vector.{vector, held}
 use Rattle.system.specs.System.{nOf, mOf, systemRefusal, F}
 use Rattle.scheme.specs.Scheme.{isScheme, challenges}
 use Rattle.protocol.specs.Rounds.{IsX}
@@ -22,7 +22,7 @@ use Rattle.honest.proofs.Honest.{Lends, fiveMiddle, fiveReplied, honest-three, 
 use Rattle.session_state.proofs.States.{state-due}
 use Rattle.carrier.specs.declared.session.Carrier.{Carrier}
 use Rattle.carrier.specs.declared.session.CarrierPhase.the-variants.{TakeReply}
-use Rattle.carrier.specs.Carrier.{carrierWith, held, heldMiddle, openedCarrier, replyRefusal, acceptsReply, judgedCarrier}
+use Rattle.carrier.specs.Carrier.{carrierWith, heldMiddle, openedCarrier, replyRefusal, acceptsReply, judgedCarrier}
 use Rattle.card.specs.Card as CardCalls
 use Rattle.session.specs.Session.{Opening, Given, Asked, World, Middle, none-sent, sent, carrierMoves}
 use Rattle.session.proofs.Logs.{Clear, none-given, same-message, given-before}

@@ -1,3 +1,4 @@
+pub mod Booleans
 pub mod Tabulate
 pub mod Parts
 pub mod Sameness

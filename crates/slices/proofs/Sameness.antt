@@ -8,14 +8,7 @@ use lib.ListN.{length}
 use lib.Seq.{ext-getD}
 use borrow.Author.Tests.{eqb-true, eq-eqb}
 use Rattle.slices.specs.Slices.{_!_, same}
-
-pub and-left : (a b : Bool) → (a && b) ≡ true → a ≡ true
-and-left true b e = refl
-and-left false b e = e
-
-pub and-right : (a b : Bool) → (a && b) ≡ true → b ≡ true
-and-right true b e = e
-and-right false b e = absurd (false≢true e)
+use Rattle.slices.proofs.Booleans.{and-left, and-right}
 
 pub same-refl : (l : List ℕ) → same l l ≡ true
 unfolding same

@@ -7,13 +7,13 @@ use native.Mathlib.Nat.{mul-le-mul, mul-le-mul-right, le-trans, le-refl, not-suc
 use mathlib.Core.Logic.{⊎-elim}
 use native.Mathlib.Decide.{decLe}
 use native.Mathlib.Omega.{arith}
-use lib.Dec.{leb, ltb, eqb}
+use lib.Dec.{T, leb, ltb, eqb, leb→le, le→leb}
 use lib.ListN.{length, drop, length-drop}
 use borrow.Author.Tests.{leb-true, eqb-true, ltb-true, le-leb, eq-eqb, lt-ltb}
 use Rattle.slices.specs.Slices.{_!_}
-use Rattle.slices.proofs.Sameness.{and-left, and-right}
+use Rattle.slices.proofs.Booleans.{and-left, and-right}
 use Rattle.refusal.specs.Refusal.{unless, _orElse_}
-use Rattle.refusal.proofs.Refusals.{first-zero, later-zero, test-holds}
+use Rattle.refusal.proofs.Refusals.{first-zero, later-zero, test-holds, unless-most, orElse-most}
 use Rattle.field.specs.Ops.{isField}
 use Rattle.field.specs.Vector.{allBelow}
 use Rattle.system.specs.System.{qOf, nOf, mOf, width, systemLength, isSize, areSizes, hasSizes, systemRefusal, WellFormedSystem, triangle}
@@ -177,3 +177,12 @@ not-refused b w =
     (sizes-true (w .q) (w .n) (w .m) (w .is-field) (w .n-size) (w .m-size))
     (eq-eqb (suc (suc (suc (length (w .coefficients))))) (3 + w .m * width (w .n)) (omega (arith, w .count)))
     (at-all-below (w .q) (w .coefficients) (w .elements))))
+
+-- no refusal of a system has a number above 3
+pub system-most : (b : List ℕ) (most : ℕ) → T (leb 3 most) → systemRefusal b ≤ most
+unfolding systemRefusal
+system-most b most h =
+    let three : 3 ≤ most = leb→le 3 most h in
+    let one : T (leb 1 most) = le→leb 1 most (omega arith) in
+    let two : T (leb 2 most) = le→leb 2 most (omega arith) in
+    orElse-most _ _ most (unless-most _ 2 most two) (orElse-most _ _ most (unless-most _ 1 most one) (orElse-most _ _ most (unless-most _ 2 most two) (unless-most _ 3 most h)))

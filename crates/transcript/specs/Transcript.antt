@@ -2,10 +2,9 @@
 use Prim.Native.Nat.{ℕ, zero, suc, _+_, _*_}
 use mathlib.Core.Bool.{Bool, cond}
 use mathlib.Core.List.{List}
-use lib.ListN.{length, take, drop}
-use Rattle.slices.specs.Slices.{_!_}
+use lib.ListN.{take, drop}
 use Rattle.refusal.specs.Refusal.{_orElse_}
-use Rattle.field.specs.Vector.{vector}
+use Rattle.field.specs.Vector.{held}
 use Rattle.scheme.specs.Scheme as S
 use Rattle.record.specs.Record.{exchangeOf, middleOf, challengeOf, replyOf}
 use Rattle.record.specs.Reader.{headerIn, fieldsIn}
@@ -13,7 +12,7 @@ use Rattle.exchange.specs.Messages.{accepts}
 
 -- "Key: v."
 unfoldable pub keyVector : List ℕ → List ℕ
-keyVector b = vector (length (fieldsIn b .key)) (λ i. fieldsIn b .key ! i)
+keyVector b = held (fieldsIn b .key)
 
 -- "Commitments: 32 bytes each, 3 or 2 a round."
 unfoldable pub roundCommitments : List ℕ → ℕ → List ℕ

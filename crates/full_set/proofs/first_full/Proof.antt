@@ -36,7 +36,7 @@ first-full-spec =
     (λ c. omega arith)
     (λ c. omega arith)
     (λ c. omega arith)
-    (λ c. 
+    (λ c.
     let loop = c .before .before .before .loop in
     let rounds = c .before .before .before .before .header-of .result .rounds in
     let next : rounds - (loop .left - 1) ≡ rounds - loop .left + 1 = omega arith in

@@ -1,6 +1,6 @@
 -- `cases::run::compared` meets its contract: the bytes are compared where the number agrees. Assumes nothing.
 use mathlib.Core.Path.{sym, _∙_}
-use Rattle.cases.proofs.Truth.{false-not-true}
+use mathlib.Core.Bool.{false≢true}
 use borrow.Author.Needs.{needs}
 use Rattle.cases.proofs.run.compared.Statement.{statement}
 use Rattle.cases.proofs.run.compared.Tie as tie
@@ -18,7 +18,7 @@ returns : tie.Need-returns
 returns c = search needs
 
 returns-2 : tie.Need-returns-2
-returns-2 c = (λ e. absurd (false-not-true (sym (c .if1 .left) ∙ e)), λ e. e)
+returns-2 c = (λ e. absurd (false≢true (sym (c .if1 .left) ∙ e)), λ e. e)
 
 pub compared-spec : {M : Type 1} → statement M
 compared-spec =

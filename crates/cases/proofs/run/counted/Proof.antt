@@ -1,6 +1,6 @@
 -- `cases::run::counted` meets its contract. Assumes nothing.
 use mathlib.Core.Path.{sym, _∙_}
-use Rattle.cases.proofs.Truth.{false-not-true}
+use mathlib.Core.Bool.{false≢true}
 use borrow.Author.Needs.{needs}
 use Rattle.cases.proofs.run.counted.Statement.{statement}
 use Rattle.cases.proofs.run.counted.Tie as tie
@@ -12,7 +12,7 @@ wrapping-add-u64-requires-2 : tie.Need-wrapping-add-u64-requires-2
 wrapping-add-u64-requires-2 c κs = search needs
 
 returns : tie.Need-returns
-returns c = λ e. absurd (false-not-true (sym e ∙ c .before .if1 .taken))
+returns c = λ e. absurd (false≢true (sym e ∙ c .before .if1 .taken))
 
 returns-2 : tie.Need-returns-2
 returns-2 c = search needs

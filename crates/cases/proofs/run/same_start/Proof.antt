@@ -2,16 +2,16 @@
 use mathlib.Core.Path.{sym}
 use native.Mathlib.Omega.{arith}
 use lib.Seq.{length-take-le}
-use Rattle.cases.proofs.Truth.{false-not-true}
+use mathlib.Core.Bool.{false≢true}
 use borrow.Author.Needs.{needs}
 use Rattle.cases.proofs.run.same_start.Statement.{statement}
 use Rattle.cases.proofs.run.same_start.Tie as tie
 
 returns : tie.Need-returns
-returns c = λ e. absurd (false-not-true e)
+returns c = λ e. absurd (false≢true e)
 
 returns-2 : tie.Need-returns-2
-returns-2 c = λ e. absurd (false-not-true e)
+returns-2 c = λ e. absurd (false≢true e)
 
 slice-aggregate-same : tie.Need-slice-aggregate-same
 slice-aggregate-same c = sym (length-take-le _ _ (omega arith))

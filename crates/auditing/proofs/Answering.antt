@@ -7,9 +7,9 @@ use Rattle.slices.specs.Slices.{zeros}
 use Rattle.commitment.specs.declared.Text.{Text}
 use Rattle.commitment.specs.Held.{text}
 use Rattle.commitment.proofs.HeldStrings.{content}
-use Rattle.audit.specs.declared.Finding.the-variants.{Secret, Refused}
-use Rattle.audit.specs.declared.Audited.{Audited}
-use Rattle.audit.specs.Outcome.{Outcome, secret, clash, refused, clashed, answerOf, outcomeBy, outcomeOf, Answers}
+use Rattle.auditing.specs.declared.Finding.the-variants.{Secret, Refused}
+use Rattle.auditing.specs.declared.Audited.{Audited}
+use Rattle.auditing.specs.Outcome.{Outcome, secret, clash, refused, clashed, answerOf, outcomeBy, outcomeOf, Answers}
 
 -- the same outcome by another name
 pub answers-by : (r : Audited) (o p : Outcome) → Answers r o → o ≡ p → Answers r p

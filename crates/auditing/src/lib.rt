@@ -16,8 +16,8 @@ ghost use mathlib.Core.Path.{_≡_};
 ghost use mathlib.Core.List.{[]};
 ghost use Rattle.system.specs.System.{systemRefusal};
 ghost use Rattle.commitment.specs.Held.{text};
-ghost use Rattle.audit.specs.Outcome.{refused as Outcome·refused, clashed as Outcome·clashed, Answers};
-ghost use Rattle.audit.specs.Audit.{clashAt, secretAt, searchOf, auditOf, auditThree, auditFive};
+ghost use Rattle.auditing.specs.Outcome.{refused as Outcome·refused, clashed as Outcome·clashed, Answers};
+ghost use Rattle.auditing.specs.Audit.{clashAt, secretAt, searchOf, auditOf, auditThree, auditFive};
 
 // What an audit finds: the secret; commitment k opened with different vectors; or nothing, by the refusal's number with
 // the record and the round, which are 0 but where a round is rejected.

@@ -1,8 +1,8 @@
 -- The audit of this scheme. Assumes nothing.
-use Rattle.audit.specs.Audit.{auditFive}
+use Rattle.auditing.specs.Audit.{auditFive}
 use borrow.Author.Needs.{needs}
-use Rattle.audit.proofs.audit_five.Statement.{statement}
-use Rattle.audit.proofs.audit_five.Tie as tie
+use Rattle.auditing.proofs.audit_five.Statement.{statement}
+use Rattle.auditing.proofs.audit_five.Tie as tie
 
 pub audit-five-spec : {M : Type 1} → statement M
 unfolding auditFive

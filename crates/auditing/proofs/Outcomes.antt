@@ -7,8 +7,8 @@ use Rattle.comparable.specs.declared.Rejection.{Rejection}
 use Rattle.comparable.specs.Comparable.{frontRefusal, rejectionOf}
 use Rattle.full_set.specs.FullSet.{firstFull}
 use Rattle.clash.specs.Clash.{firstClash}
-use Rattle.audit.specs.Outcome.{refused}
-use Rattle.audit.specs.Audit.{clashAt, secretAt, findingAt, searchOf, auditOf}
+use Rattle.auditing.specs.Outcome.{refused}
+use Rattle.auditing.specs.Audit.{clashAt, secretAt, findingAt, searchOf, auditOf}
 
 module _ (scheme : ℕ) (system a b c d : List ℕ) where
   pub finding-secret : (r k : ℕ) → k ≡ firstClash scheme system a b c d r → k ≡ 0 → secretAt system a b c r ≡ findingAt scheme system a b c d r

@@ -1,9 +1,9 @@
 -- The callees' answers, put together. Assumes nothing.
-use Rattle.audit.specs.Audit.{clashAt}
-use Rattle.audit.proofs.Answering.{answers-clash}
+use Rattle.auditing.specs.Audit.{clashAt}
+use Rattle.auditing.proofs.Answering.{answers-clash}
 use borrow.Author.Needs.{needs}
-use Rattle.audit.proofs.clash_at.Statement.{statement}
-use Rattle.audit.proofs.clash_at.Tie as tie
+use Rattle.auditing.proofs.clash_at.Statement.{statement}
+use Rattle.auditing.proofs.clash_at.Tie as tie
 
 pub clash-at-spec : {M : Type 1} → statement M
 unfolding clashAt

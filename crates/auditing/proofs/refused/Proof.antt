@@ -1,10 +1,10 @@
 -- The refusal with nothing beside it. Assumes nothing.
 use mathlib.Core.Path.{refl}
 use Rattle.slices.specs.Slices.{zeros}
-use Rattle.audit.proofs.Answering.{answers-refused}
+use Rattle.auditing.proofs.Answering.{answers-refused}
 use borrow.Author.Needs.{needs}
-use Rattle.audit.proofs.refused.Statement.{statement}
-use Rattle.audit.proofs.refused.Tie as tie
+use Rattle.auditing.proofs.refused.Statement.{statement}
+use Rattle.auditing.proofs.refused.Tie as tie
 
 pub refused-spec : {M : Type 1} → statement M
 unfolding zeros

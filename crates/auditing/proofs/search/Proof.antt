@@ -1,11 +1,11 @@
 -- By cases on what is found. Assumes nothing.
 use mathlib.Core.Path.{_∙_}
-use Rattle.audit.proofs.Answering.{answers-by}
-use Rattle.audit.proofs.Outcomes.{finding-secret, finding-clash, search-none, search-found}
+use Rattle.auditing.proofs.Answering.{answers-by}
+use Rattle.auditing.proofs.Outcomes.{finding-secret, finding-clash, search-none, search-found}
 use native.Mathlib.Omega.{arith}
 use borrow.Author.Needs.{needs}
-use Rattle.audit.proofs.search.Statement.{statement}
-use Rattle.audit.proofs.search.Tie as tie
+use Rattle.auditing.proofs.search.Statement.{statement}
+use Rattle.auditing.proofs.search.Tie as tie
 
 pub search-spec : {M : Type 1} → statement M
 search-spec =

@@ -8,7 +8,7 @@ use Rattle.comparable.specs.Comparable.{frontRefusal, rejectionOf}
 use Rattle.openings.specs.Openings.{openingIn, secretOf}
 use Rattle.full_set.specs.FullSet.{answering, firstFull}
 use Rattle.clash.specs.Clash.{leftRecord, rightRecord, firstClash}
-use Rattle.audit.specs.Outcome.{Outcome, secret, clash, refused}
+use Rattle.auditing.specs.Outcome.{Outcome, secret, clash, refused}
 
 -- commitment k of round r, opened in two ways
 unfoldable pub clashAt : ℕ → List ℕ → List ℕ → List ℕ → List ℕ → List ℕ → ℕ → ℕ → Outcome

@@ -6,9 +6,9 @@ use lib.ListN.{take}
 use Rattle.slices.specs.Slices.{zeros}
 use Rattle.commitment.specs.declared.Text.{Text}
 use Rattle.commitment.specs.Held.{text}
-use Rattle.audit.specs.declared.Finding.{Finding}
-use Rattle.audit.specs.declared.Finding.the-variants.{Secret, Clash, Refused}
-use Rattle.audit.specs.declared.Audited.{Audited}
+use Rattle.auditing.specs.declared.Finding.{Finding}
+use Rattle.auditing.specs.declared.Finding.the-variants.{Secret, Clash, Refused}
+use Rattle.auditing.specs.declared.Audited.{Audited}
 
 -- a secret; a clash, "its k and both whole hashed strings"; or a refusal by its number with a record and a round
 pub data Outcome : Type 0 where

@@ -1,9 +1,9 @@
 -- The callees' answers, put together. Assumes nothing.
-use Rattle.audit.specs.Audit.{secretAt}
-use Rattle.audit.proofs.Answering.{answers-secret}
+use Rattle.auditing.specs.Audit.{secretAt}
+use Rattle.auditing.proofs.Answering.{answers-secret}
 use borrow.Author.Needs.{needs}
-use Rattle.audit.proofs.secret_at.Statement.{statement}
-use Rattle.audit.proofs.secret_at.Tie as tie
+use Rattle.auditing.proofs.secret_at.Statement.{statement}
+use Rattle.auditing.proofs.secret_at.Tie as tie
 
 pub secret-at-spec : {M : Type 1} → statement M
 unfolding secretAt

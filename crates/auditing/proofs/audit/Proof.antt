@@ -1,11 +1,11 @@
 -- By cases on what is refused. Assumes nothing.
 use mathlib.Core.Path.{sym, _∙_}
 use Rattle.comparable.proofs.Front.{front}
-use Rattle.audit.proofs.Answering.{answers-by}
-use Rattle.audit.proofs.Outcomes.{audit-refused, audit-rejected, audit-searched}
+use Rattle.auditing.proofs.Answering.{answers-by}
+use Rattle.auditing.proofs.Outcomes.{audit-refused, audit-rejected, audit-searched}
 use borrow.Author.Needs.{needs}
-use Rattle.audit.proofs.audit.Statement.{statement}
-use Rattle.audit.proofs.audit.Tie as tie
+use Rattle.auditing.proofs.audit.Statement.{statement}
+use Rattle.auditing.proofs.audit.Tie as tie
 
 pub audit-spec : {M : Type 1} → statement M
 audit-spec =

@@ -7,8 +7,8 @@ use Rattle.slices.specs.Slices.{_!_}
 use Rattle.slices.proofs.Tabulate.{tabulate-of}
 use Rattle.commitment.specs.Held.{held}
 use Rattle.commitment.proofs.HeldStrings.{same-text}
-use Rattle.audit.proofs.empty.Statement.{statement}
-use Rattle.audit.proofs.empty.Tie as tie
+use Rattle.auditing.proofs.empty.Statement.{statement}
+use Rattle.auditing.proofs.empty.Tie as tie
 
 none-held : replicate 322 0 ≡ held []
 unfolding held

@@ -1,8 +1,8 @@
 -- The audit of this scheme. Assumes nothing.
-use Rattle.audit.specs.Audit.{auditThree}
+use Rattle.auditing.specs.Audit.{auditThree}
 use borrow.Author.Needs.{needs}
-use Rattle.audit.proofs.audit_three.Statement.{statement}
-use Rattle.audit.proofs.audit_three.Tie as tie
+use Rattle.auditing.proofs.audit_three.Statement.{statement}
+use Rattle.auditing.proofs.audit_three.Tie as tie
 
 pub audit-three-spec : {M : Type 1} → statement M
 unfolding auditThree
