@@ -5,6 +5,7 @@ use mathlib.Core.Bool.{cond}
 use mathlib.Core.List.{List, [], _∷_}
 use mathlib.Core.Option.{some}
 use lib.Dec.{eqb}
+use Rattle.field.specs.Vector as Vector
 use Rattle.slices.specs.Slices.{zeros}
 use Rattle.system.specs.System.{nOf, mOf}
 use Rattle.scheme.specs.Scheme.{challenges}
@@ -27,7 +28,7 @@ module _ (o : Opening) where
   -- ---- what an honest card sends in a round, from what is lent for it
 
   abbrev pub secretOf : List ℕ
-  secretOf = CardCalls.held (o .secret)
+  secretOf = Vector.held (o .secret)
 
   unfoldable pub commitmentsOf : List ℕ → List ℕ
   commitmentsOf lent =
@@ -97,14 +98,14 @@ module _ (o : Opening) where
     commitments-due : r < o .rounds → carrier ≡ carrierAt TakeCommitments r (zeros 96) (zeros 193) 0 → Clear (a .alphas) r → Clear (a .challenges) r →
         CarrierState g a carrier r
     alpha-due : (c : List ℕ) → r < o .rounds → (o .scheme ≡ 3 → ⊥) → g .commitments r ≡ some c →
-        carrier ≡ carrierAt SetAlpha r (CarrierCalls.held c) (zeros 193) 0 → Clear (a .alphas) r → Clear (a .challenges) r → CarrierState g a carrier r
+        carrier ≡ carrierAt SetAlpha r (Vector.held c) (zeros 193) 0 → Clear (a .alphas) r → Clear (a .challenges) r → CarrierState g a carrier r
     middle-due : (c : List ℕ) (α : ℕ) → r < o .rounds → (o .scheme ≡ 3 → ⊥) → g .commitments r ≡ some c → a .alphas r ≡ some α →
-        carrier ≡ carrierAt TakeMiddle r (CarrierCalls.held c) (CarrierCalls.heldMiddle α []) 0 → Clear (a .alphas) (r + 1) → Clear (a .challenges) r →
+        carrier ≡ carrierAt TakeMiddle r (Vector.held c) (CarrierCalls.heldMiddle α []) 0 → Clear (a .alphas) (r + 1) → Clear (a .challenges) r →
         CarrierState g a carrier r
     challenge-due : (c held : List ℕ) → r < o .rounds → g .commitments r ≡ some c → MiddleHeld g a r held →
-        carrier ≡ carrierAt SetChallenge r (CarrierCalls.held c) held 0 → Clear (a .alphas) (r + 1) → Clear (a .challenges) r → CarrierState g a carrier r
+        carrier ≡ carrierAt SetChallenge r (Vector.held c) held 0 → Clear (a .alphas) (r + 1) → Clear (a .challenges) r → CarrierState g a carrier r
     reply-due : (c held : List ℕ) (challenge : ℕ) → r < o .rounds → g .commitments r ≡ some c → MiddleHeld g a r held → a .challenges r ≡ some challenge →
-        carrier ≡ carrierAt TakeReply r (CarrierCalls.held c) held challenge → Clear (a .alphas) (r + 1) → Clear (a .challenges) (r + 1) →
+        carrier ≡ carrierAt TakeReply r (Vector.held c) held challenge → Clear (a .alphas) (r + 1) → Clear (a .challenges) (r + 1) →
         CarrierState g a carrier r
     accepted : r ≡ o .rounds → carrier ≡ CarrierCalls.closedCarrier Accepted (o .rounds) → CarrierState g a carrier r
 
