@@ -37,10 +37,10 @@ pub fn left_record<'a>(scheme: u8, a: &'a [u8], b: &'a [u8], c: &'a [u8], r: u8,
     if scheme == 3 {
         return answering(a, b, c, r, lower_challenge(k));
     }
-    if k == 0 {
-        return a;
+    if k != 0 {
+        return b;
     }
-    b
+    a
 }
 
 // The record whose opening of commitment k is compared with it.
@@ -58,10 +58,10 @@ pub fn right_record<'a>(
     if scheme == 3 {
         return answering(a, b, c, r, higher_challenge(k));
     }
-    if k == 0 {
-        return c;
+    if k != 0 {
+        return d;
     }
-    d
+    c
 }
 
 // Whether both open commitment k with the same vectors.
