@@ -3,14 +3,12 @@
 // The entries `audit_three` and `audit_five` take any bytes. Each checks the system, then each record in turn, then that the
 // records belong together, then judges every round, and then looks for the first round with a full set of challenges.
 use clash::first_clash;
-use clash::left_record;
-use clash::right_record;
+use clash::opened_pair;
 use commitment::Text;
 use comparable::first_rejection;
 use comparable::front_refusal;
 use full_set::answering;
 use full_set::first_full;
-use openings::opening;
 use openings::secret;
 ghost use mathlib.Core.Path.{_≡_};
 ghost use mathlib.Core.List.{[]};
@@ -97,8 +95,9 @@ fn clash_at<'a>(
     requires { ⌜ systemRefusal (now system) ≡ 0 ⌝ }
     ensures { λ o. ⌜ Answers o (clashAt scheme (now (system .entry)) (now (a .entry)) (now (b .entry)) (now (c .entry)) (now (d .entry)) r k) ⌝ }
 {
-    let left = opening(system, left_record(scheme, a, b, c, r, k), r, k);
-    let right = opening(system, right_record(scheme, a, b, c, d, r, k), r, k);
+    let pair = opened_pair(scheme, system, a, b, c, d, r, k);
+    let left = pair.left;
+    let right = pair.right;
     clashed(k, left, right)
 }
 

@@ -2,12 +2,13 @@
 //
 // Nothing here refuses: whoever calls has checked the system and read the records. Scheme 3 has no fourth record, and `d` is
 // not looked at there.
+use commitment::Text;
 use full_set::answering;
 use openings::opening;
 use openings::same_openings;
 ghost use mathlib.Core.Path.{_≡_};
 ghost use Rattle.system.specs.System.{systemRefusal};
-ghost use Rattle.clash.specs.Clash.{lowerChallenge, higherChallenge, leftRecord, rightRecord, samePair, pairs as pairsOf, firstClash};
+ghost use Rattle.clash.specs.Clash.{lowerChallenge, higherChallenge, leftRecord, rightRecord, leftOpening, rightOpening, Holds, samePair, pairs as pairsOf, firstClash};
 
 // Three passes: the lower of the two challenges whose replies open commitment k.
 fn lower_challenge(k: u8) -> u8
@@ -31,7 +32,7 @@ fn higher_challenge(k: u8) -> u8
 }
 
 // The record whose opening of commitment k stands first.
-pub fn left_record<'a>(scheme: u8, a: &'a [u8], b: &'a [u8], c: &'a [u8], r: u8, k: u8) -> &'a [u8]
+fn left_record<'a>(scheme: u8, a: &'a [u8], b: &'a [u8], c: &'a [u8], r: u8, k: u8) -> &'a [u8]
     ensures { λ s. ⌜ now s ≡ leftRecord scheme (now (a .entry)) (now (b .entry)) (now (c .entry)) r k ⌝ }
 {
     if scheme == 3 {
@@ -44,7 +45,7 @@ pub fn left_record<'a>(scheme: u8, a: &'a [u8], b: &'a [u8], c: &'a [u8], r: u8,
 }
 
 // The record whose opening of commitment k is compared with it.
-pub fn right_record<'a>(
+fn right_record<'a>(
     scheme: u8,
     a: &'a [u8],
     b: &'a [u8],
@@ -64,6 +65,30 @@ pub fn right_record<'a>(
     c
 }
 
+// The two strings that open commitment k, the one that stands first on the left.
+pub struct Pair {
+    pub left: Text,
+    pub right: Text,
+}
+
+pub fn opened_pair<'a>(
+    scheme: u8,
+    system: &'a [u8],
+    a: &'a [u8],
+    b: &'a [u8],
+    c: &'a [u8],
+    d: &'a [u8],
+    r: u8,
+    k: u8,
+) -> Pair
+    requires { ⌜ systemRefusal (now system) ≡ 0 ⌝ }
+    ensures { λ p. ⌜ Holds p (leftOpening scheme (now (system .entry)) (now (a .entry)) (now (b .entry)) (now (c .entry)) r k) (rightOpening scheme (now (system .entry)) (now (a .entry)) (now (b .entry)) (now (c .entry)) (now (d .entry)) r k) ⌝ }
+{
+    let left = opening(system, left_record(scheme, a, b, c, r, k), r, k);
+    let right = opening(system, right_record(scheme, a, b, c, d, r, k), r, k);
+    Pair { left, right }
+}
+
 // Whether both open commitment k with the same vectors.
 fn same_pair<'a>(
     scheme: u8,
@@ -78,8 +103,9 @@ fn same_pair<'a>(
     requires { ⌜ systemRefusal (now system) ≡ 0 ⌝ }
     ensures { λ t. ⌜ t ≡ samePair scheme (now (system .entry)) (now (a .entry)) (now (b .entry)) (now (c .entry)) (now (d .entry)) r k ⌝ }
 {
-    let left = opening(system, left_record(scheme, a, b, c, r, k), r, k);
-    let right = opening(system, right_record(scheme, a, b, c, d, r, k), r, k);
+    let pair = opened_pair(scheme, system, a, b, c, d, r, k);
+    let left = pair.left;
+    let right = pair.right;
     same_openings(left, right)
 }
 

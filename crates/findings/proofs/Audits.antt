@@ -16,7 +16,7 @@ use Rattle.transcript.specs.Transcript.{keyVector, roundChallenge}
 use Rattle.comparable.proofs.Front.{Front}
 use Rattle.openings.specs.Openings.{openingIn, compared, sameOpenings, secretOf}
 use Rattle.full_set.specs.FullSet.{answering, fullSet}
-use Rattle.clash.specs.Clash.{lowerChallenge, higherChallenge, leftRecord, rightRecord, samePair, pairs}
+use Rattle.clash.specs.Clash.{lowerChallenge, higherChallenge, leftRecord, rightRecord, leftOpening, rightOpening, samePair, pairs}
 use Rattle.auditing.specs.Audit.{auditThree, auditFive}
 use Rattle.findings.specs.Findings.{Auditable, AllAccepted, FullThree, FullFive, Among, OrderThree, OrderFive, Scheme, threePass, fivePass, Each, none-left, each, Claim}
 use Rattle.findings.proofs.Comparing.{auditable, readable, alike, fitting, alike-itself}
@@ -53,7 +53,7 @@ front-by scheme system a b c d good ka kb kc kd =
 -- the openings that are compared agree
 pub same-compared : (scheme : ℕ) (system a b c d : List ℕ) (r k : ℕ) → samePair scheme system a b c d r k ≡ true →
     compared (openingIn system (leftRecord scheme a b c r k) r k) ≡ compared (openingIn system (rightRecord scheme a b c d r k) r k)
-unfolding samePair sameOpenings
+unfolding samePair sameOpenings leftOpening rightOpening
 same-compared scheme system a b c d r k e = same-true _ _ e
 
 -- within the rounds of the first record, within those of another

@@ -25,7 +25,7 @@ use Rattle.comparable.specs.Comparable.{frontRefusal, rejectionOf}
 use Rattle.comparable.proofs.Front.{Front, front, none-refused}
 use Rattle.openings.specs.Openings.{openingIn, compared, sameOpenings, secretOf}
 use Rattle.full_set.specs.FullSet.{answering, fullSet, firstFull}
-use Rattle.clash.specs.Clash.{leftRecord, rightRecord, samePair, pairs, firstClash}
+use Rattle.clash.specs.Clash.{leftRecord, rightRecord, leftOpening, rightOpening, samePair, pairs, firstClash}
 use Rattle.auditing.specs.Outcome.{Outcome, refused}
 use Rattle.auditing.specs.Audit.{secretAt, clashAt, findingAt, searchOf, auditOf}
 use Rattle.auditing.proofs.Outcomes.{finding-secret, finding-clash, search-none, search-found, audit-refused, audit-rejected, audit-searched}
@@ -124,7 +124,7 @@ module _ (t : Scheme) (b c d : List ℕ) (laws : Laws t b c d) where
       (quadratic-map system (s .good) .groupX .add-is _ _, laws .secret-solves s r (used .within) (laws .full-tells r (used .holds)) same)
 
   clash-right : AllSound t → (r : ℕ) → Used r → (k : ℕ) → Differs r k → Right t (clashAt scheme system a b c d r k)
-  unfolding Right clashAt samePair
+  unfolding Right clashAt samePair leftOpening rightOpening
   clash-right s r used k differs =
       let full = laws .full-tells r (used .holds) in
       let left = laws .left-opened s r k full (differs .within) in

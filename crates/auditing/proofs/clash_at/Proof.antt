@@ -12,7 +12,4 @@ clash-at-spec =
     (tie.spec
     (λ c κs. search needs)
     (λ c κs. search needs)
-    (λ c κs. search needs)
-    (λ c κs. search needs)
-    (λ c κs. search needs)
-    (λ c. answers-clash _ _ _ _ _ _ (c .clashed .ensures) (simp (c .before .before .before .opening .ensures .0, c .before .before .before .before .left-record .ensures)) (c .before .before .before .opening .ensures .1) (simp (c .before .opening2 .ensures .0, c .before .before .right-record .ensures)) (c .before .opening2 .ensures .1)))
+    (λ c. let k = c .before .before .before .opened-pair .ensures in answers-clash _ _ _ _ _ _ (c .clashed .ensures) (k .left-is) (k .left-room) (k .right-is) (k .right-room)))
