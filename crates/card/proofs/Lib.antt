@@ -1,3 +1,4 @@
+pub mod Eleven
 pub mod Phases
 pub mod Steps
 pub mod Taken

@@ -1,30 +1,13 @@
 -- A call answers 11 exactly where its session is closed. Assumes nothing.
-use Prim.Native.Nat.{ℕ, _≤_}
-use mathlib.Core.Path.{_≡_, refl}
-use mathlib.Core.Bool.{Bool, true, false, cond}
+use Prim.Native.Nat.{ℕ}
+use mathlib.Core.Path.{_≡_}
 use mathlib.Core.List.{List}
-use native.Mathlib.Omega.{arith}
 use lib.Dec.{eqb}
-use borrow.Author.Tests.{ne-eqb}
-use Rattle.refusal.specs.Refusal.{unless, _orElse_}
 use Rattle.refusal.proofs.Refusals.{unless-most, orElse-most}
 use Rattle.system.proofs.SystemLayout.{system-most}
-use Rattle.session_state.specs.State.{stateRefusal}
+use Rattle.session_state.proofs.States.{eleven}
 use Rattle.carrier.specs.declared.session.Carrier.{Carrier}
 use Rattle.carrier.specs.Carrier.{phaseNumber, commitmentsRefusal, alphaRefusal, middleRefusal, challengeRefusal, replyRefusal}
-
--- ---- "11 a closed session": where no later refusal has that number
-
-eleven : (phase due later : ℕ) → later ≤ 9 → eqb (stateRefusal phase due orElse later) 11 ≡ eqb phase 0
-unfolding stateRefusal unless _orElse_
-eleven phase due later h = go (eqb phase 0) (eqb phase due)
-  where
-    go : (closed isDue : Bool) → eqb (cond (eqb (cond closed 11 (cond isDue 0 10)) 0) later (cond closed 11 (cond isDue 0 10))) 11 ≡ closed
-    go true isDue = refl
-    go false true = ne-eqb later 11 (λ e. omega arith)
-    go false false = refl
-
--- ---- each call
 
 pub commitments-eleven : (c : Carrier) (commitments : List ℕ) → eqb (commitmentsRefusal c commitments) 11 ≡ eqb (phaseNumber (c .phase)) 0
 unfolding commitmentsRefusal

@@ -1,11 +1,11 @@
--- No refusal by the state exactly where the call is due. Assumes nothing.
-use Prim.Native.Nat.{ℕ, _+_, _<_, min}
+-- No refusal by the state exactly where the call is due, and 11 exactly where the session is closed. Assumes nothing.
+use Prim.Native.Nat.{ℕ, _+_, _≤_, _<_, min}
 use mathlib.Core.Path.{_≡_, refl}
 use mathlib.Core.Bool.{Bool, true, false, cond}
 use native.Mathlib.Omega.{arith}
 use lib.Dec.{eqb}
 use borrow.Author.Tests.{ne-eqb, eq-eqb}
-use Rattle.refusal.specs.Refusal.{unless}
+use Rattle.refusal.specs.Refusal.{unless, _orElse_}
 use Rattle.refusal.proofs.Refusals.{equal-holds}
 use Rattle.session_state.specs.State.{stateRefusal, nextCount}
 
@@ -24,3 +24,13 @@ due-state phase due e some = simp (e, ne-eqb due 0 some, eq-eqb due due refl)
 pub count-below : (k n : ℕ) → k < n → n < 256 → nextCount k ≡ k + 1
 unfolding nextCount
 count-below k n h small = omega arith
+
+-- "11 a closed session": where no later refusal has that number
+pub eleven : (phase due later : ℕ) → later ≤ 9 → eqb (stateRefusal phase due orElse later) 11 ≡ eqb phase 0
+unfolding stateRefusal unless _orElse_
+eleven phase due later h = go (eqb phase 0) (eqb phase due)
+  where
+    go : (closed isDue : Bool) → eqb (cond (eqb (cond closed 11 (cond isDue 0 10)) 0) later (cond closed 11 (cond isDue 0 10))) 11 ≡ closed
+    go true isDue = refl
+    go false true = ne-eqb later 11 (λ e. omega arith)
+    go false false = refl
