@@ -27,8 +27,7 @@ fn put(bytes: [u8; 322], at: usize, s: &[u8]) -> [u8; 322]
     ensures { λ r. ⌜ r ≡ take at bytes ++ (now (s .entry) ++ drop (at + length (now (s .entry))) bytes) ⌝ }
 {
     let mut out = bytes;
-    let end = at + s.len();
-    bytes::copy(s, &mut out[at..end]);
+    slices::put(&mut out, at, s);
     out
 }
 

@@ -15,6 +15,7 @@ use crate::constants::initial_state;
 use crate::padding::block_count;
 use crate::padding::padded_block;
 use crate::state::State;
+use slices::put;
 
 mod block;
 mod constants;
@@ -96,10 +97,6 @@ pub fn digest(message: &[u8], out: &mut [u8]) -> u8
         return 2;
     }
     let d = hash(message);
-    let mut i = 0;
-    while i < 32 {
-        out[i] = d[i];
-        i += 1;
-    }
+    put(out, 0, &d);
     0
 }

@@ -68,6 +68,13 @@ placed-next done s l r place next written room e er =
 pub placed-all : (done r : List ℕ) (next : ℕ) → take next r ≡ done → length r ≡ next → r ≡ done
 placed-all done r next written long = sym (take-all next r (omega arith)) ∙ written
 
+-- a piece as long as all
+pub placed-whole : (l s r : List ℕ) → length s ≡ length l → r ≡ placed l 0 s → r ≡ s
+placed-whole l s r long er =
+    let room : 0 + length s ≤ length l = omega arith in
+    let length-r : length r ≡ length s = ap length er ∙ length-placed l s 0 room ∙ sym long in
+    placed-all s r (length s) (placed-next [] s l r 0 (length s) refl room (omega arith) er) length-r
+
 -- what stands behind the piece stays
 placed-rest : (l r s : List ℕ) (place next : ℕ) → place + length s ≤ length l → next ≡ place + length s → r ≡ placed l place s → drop next r ≡ drop next l
 unfolding placed
