@@ -41,7 +41,7 @@ textBytes t = word (t .len) ++ t .bytes
 unfoldable pub findingBytes : Audited → List ℕ
 findingBytes r = findingFront (r .finding) ++ r .secret ++ textBytes (r .first) ++ textBytes (r .second)
 
--- canvasfox.h: "0 for a finding, else the refusal's number + 256 × the record + 65,536 × the round"
+-- canvasfox.h: "0 for a finding, else the refusal's number + 256 * the record + 65536 * the round"
 unfoldable pub auditNumber : Finding → ℕ
 auditNumber Secret = 0
 auditNumber (Clash k) = 0
