@@ -1,9 +1,8 @@
 -- One branch: what is refused stays, else the fields are written. Assumes nothing.
 use Prim.Native.Nat.{ℕ}
-use mathlib.Core.Path.{_≡_, refl, sym, _∙_}
+use mathlib.Core.Path.{_≡_, sym, _∙_}
 use mathlib.Core.List.{List}
 use lib.ListN.{length}
-use Rattle.refusal.specs.Refusal.{kept}
 use Rattle.refusal.proofs.Refusals.{kept-refused, kept-accepted, equal-holds, first-zero}
 use Rattle.capi.specs.Layouts.{fieldsRefusal}
 use borrow.Author.Needs.{needs}

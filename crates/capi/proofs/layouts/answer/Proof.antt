@@ -1,8 +1,7 @@
 -- One branch: what is refused stays, else the finding is written. Assumes nothing.
-use mathlib.Core.Path.{_≡_, refl, sym, _∙_}
-use Rattle.refusal.specs.Refusal.{kept}
+use mathlib.Core.Path.{refl, sym, _∙_}
 use Rattle.refusal.proofs.Refusals.{kept-refused, kept-accepted, equal-holds, first-zero}
-use Rattle.capi.specs.Layouts.{auditRefusal, auditNumber}
+use Rattle.capi.specs.Layouts.{auditRefusal}
 use borrow.Author.Needs.{needs}
 use Rattle.capi.proofs.layouts.answer.Statement.{statement}
 use Rattle.capi.proofs.layouts.answer.Tie as tie

@@ -1,5 +1,4 @@
 -- Each arm knows its variant. Assumes nothing.
-use mathlib.Core.Path.{_≡_, refl}
 use Rattle.capi.specs.Layouts.{auditNumber}
 use borrow.Author.Needs.{needs}
 use Rattle.capi.proofs.layouts.audit_number.Statement.{statement}

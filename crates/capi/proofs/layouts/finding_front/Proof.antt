@@ -1,5 +1,5 @@
 -- Each arm knows its variant. Assumes nothing.
-use mathlib.Core.Path.{_≡_, refl}
+use mathlib.Core.Path.{refl}
 use Rattle.capi.specs.Layouts.{findingFront}
 use borrow.Author.Needs.{needs}
 use Rattle.capi.proofs.layouts.finding_front.Statement.{statement}

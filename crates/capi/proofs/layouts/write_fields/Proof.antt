@@ -1,5 +1,5 @@
 -- The header, then the table behind it. Assumes nothing.
-use mathlib.Core.Path.{_≡_, refl, ap, _∙_}
+use mathlib.Core.Path.{refl, ap, _∙_}
 use mathlib.Core.List.{List, _++_, []}
 use native.Mathlib.Omega.{arith}
 use Prim.Native.Nat.{ℕ}

@@ -1,5 +1,4 @@
 -- Each piece behind the last, to the end. Assumes nothing.
-use Prim.Native.Nat.{_+_, _≤_}
 use mathlib.Core.Path.{_≡_, refl, ap, _∙_}
 use mathlib.Core.List.{List, _++_, []}
 use Prim.Native.Nat.{ℕ}
