@@ -1,0 +1,193 @@
+//! The proved engine for Rust: safe functions over `include/canvasfox.h`, which says what each does and
+//! refuses.
+//!
+//! The functions here take slices and return values. `slices` has the same with lent outputs, as C has
+//! them.
+
+mod refusal;
+pub mod slices;
+
+pub use refusal::Refusal;
+use std::ops::Range;
+
+/// The bytes of a digest.
+pub const DIGEST: usize = 32;
+
+/// The bytes of a round's three commitments.
+pub const COMMITMENTS: usize = 96;
+
+/// The bytes of a record's fields, as `slices::record_read` lays them out.
+pub const FIELDS: usize = 30;
+
+/// The bytes of a report's buffer.
+pub const TEXT: usize = 8192;
+
+/// The bytes of a finding, as `slices::audit_three` lays them out.
+pub const FINDING: usize = 752;
+
+/// The SHA-256 digest of a message.
+pub fn sha256(message: &[u8]) -> Result<[u8; DIGEST], Refusal> {
+    let mut digest = [0; DIGEST];
+    Refusal::or(slices::sha256(message, &mut digest), digest)
+}
+
+/// Whether a system is well-formed.
+pub fn system_check(system: &[u8]) -> Result<(), Refusal> {
+    Refusal::or(slices::system_check(system), ())
+}
+
+/// F(x).
+pub fn evaluate(system: &[u8], x: &[u8]) -> Result<Vec<u8>, Refusal> {
+    let mut out = vec![0; byte_of(system, 2)];
+    Refusal::or(slices::evaluate(system, x, &mut out), out)
+}
+
+/// G(x, y).
+pub fn polar(system: &[u8], x: &[u8], y: &[u8]) -> Result<Vec<u8>, Refusal> {
+    let mut out = vec![0; byte_of(system, 2)];
+    Refusal::or(slices::polar(system, x, y, &mut out), out)
+}
+
+/// A simulated three-pass round.
+#[derive(Clone, Debug, PartialEq, Eq)]
+pub struct Simulated {
+    pub commitments: [u8; COMMITMENTS],
+    pub reply: Vec<u8>,
+}
+
+/// A three-pass round without the secret: `predicted` is the challenge that there is no reply to, and
+/// `challenge` the one replied to.
+pub fn simulate(
+    system: &[u8],
+    v: &[u8],
+    predicted: u8,
+    challenge: u8,
+    lent: &[u8],
+) -> Result<Simulated, Refusal> {
+    let (n, m) = (byte_of(system, 1), byte_of(system, 2));
+    let mut commitments = [0; COMMITMENTS];
+    let mut reply = vec![0; 2 * n + m + 64];
+    let number = slices::simulate(
+        system,
+        v,
+        predicted,
+        challenge,
+        lent,
+        &mut commitments,
+        &mut reply,
+    );
+    Refusal::or(number, Simulated { commitments, reply })
+}
+
+/// A record's header, and where its bodies stand.
+#[derive(Clone, Debug, PartialEq, Eq)]
+pub struct Fields {
+    pub edition: u8,
+    pub scheme: u8,
+    pub q: u8,
+    pub n: u8,
+    pub m: u8,
+    /// N.
+    pub rounds: u8,
+    pub key: Range<usize>,
+    pub commitments: Range<usize>,
+    pub exchanges: Range<usize>,
+}
+
+/// Reads a session record. No round is judged.
+pub fn record_read(record: &[u8]) -> Result<Fields, Refusal> {
+    let mut bytes = [0; FIELDS];
+    let number = slices::record_read(record, &mut bytes);
+    let [edition, scheme, q, n, m, rounds, ..] = bytes;
+    let body = |at: usize| {
+        let offset = number_at(&bytes, at);
+        offset..offset + number_at(&bytes, at + 4)
+    };
+    let fields = Fields {
+        edition,
+        scheme,
+        q,
+        n,
+        m,
+        rounds,
+        key: body(6),
+        commitments: body(14),
+        exchanges: body(22),
+    };
+    Refusal::or(number, fields)
+}
+
+/// The report on a system with a record behind it, or on why the two are refused.
+pub fn report(input: &[u8]) -> String {
+    let mut text = vec![0; TEXT];
+    let length = slices::report(input, &mut text);
+    text.truncate(length);
+    String::from_utf8(text).expect("a report is ASCII")
+}
+
+/// What an audit found.
+#[derive(Clone, Debug, PartialEq, Eq)]
+pub enum Finding {
+    /// The card's secret, and zeros.
+    Secret([u8; 96]),
+    /// Two strings that hash to commitment k of the round used.
+    Clash {
+        k: u8,
+        first: Vec<u8>,
+        second: Vec<u8>,
+    },
+}
+
+/// Why an audit found nothing. Record and round count from 1 where a round is rejected, and are 0 in
+/// every other refusal.
+#[derive(Clone, Copy, Debug, PartialEq, Eq)]
+pub struct AuditRefusal {
+    pub refusal: Refusal,
+    pub record: u8,
+    pub round: u8,
+}
+
+/// The audit of three records of scheme 3.
+pub fn audit_three(system: &[u8], records: [&[u8]; 3]) -> Result<Finding, AuditRefusal> {
+    let mut bytes = [0; FINDING];
+    let [a, b, c] = records;
+    audited(slices::audit_three(system, a, b, c, &mut bytes), &bytes)
+}
+
+/// The audit of four records of scheme 5.
+pub fn audit_five(system: &[u8], records: [&[u8]; 4]) -> Result<Finding, AuditRefusal> {
+    let mut bytes = [0; FINDING];
+    let [a, b, c, d] = records;
+    audited(slices::audit_five(system, a, b, c, d, &mut bytes), &bytes)
+}
+
+/// An audit's answer, taken apart.
+fn audited(answer: u32, bytes: &[u8; FINDING]) -> Result<Finding, AuditRefusal> {
+    let [number, record, round, _] = answer.to_le_bytes();
+    Refusal::or(number, ()).map_err(|refusal| AuditRefusal {
+        refusal,
+        record,
+        round,
+    })?;
+    let string = |at: usize| bytes[at + 4..at + 4 + number_at(bytes, at)].to_vec();
+    Ok(match bytes[0] {
+        1 => Finding::Secret(bytes[4..100].try_into().expect("96 bytes")),
+        _ => Finding::Clash {
+            k: bytes[1],
+            first: string(100),
+            second: string(426),
+        },
+    })
+}
+
+/// The byte at a place, 0 beyond the end. A system that is too short is refused whatever its outputs
+/// are.
+fn byte_of(bytes: &[u8], place: usize) -> usize {
+    bytes.get(place).copied().unwrap_or(0).into()
+}
+
+/// Four bytes, the lowest first.
+fn number_at(bytes: &[u8], at: usize) -> usize {
+    let word = bytes[at..at + 4].try_into().expect("four bytes");
+    usize::try_from(u32::from_le_bytes(word)).expect("a length")
+}

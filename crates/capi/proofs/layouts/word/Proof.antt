@@ -1,0 +1,17 @@
+-- By computation. Assumes nothing.
+use mathlib.Core.Path.{refl}
+use Rattle.record.specs.Record.{word}
+use borrow.Author.Needs.{needs}
+use Rattle.capi.proofs.layouts.word.Statement.{statement}
+use Rattle.capi.proofs.layouts.word.Tie as tie
+
+pub word-spec : {M : Type 1} → statement M
+unfolding word
+word-spec =
+    tie.close
+    (tie.spec
+    (λ c. search needs)
+    (λ c. search needs)
+    (λ c. search needs)
+    (λ c. search needs)
+    (λ c. (refl, refl)))
