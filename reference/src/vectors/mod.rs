@@ -9,6 +9,7 @@ pub mod audited;
 pub mod auditing;
 pub mod calls;
 pub mod case;
+pub mod demo;
 pub mod exchange;
 pub mod faults;
 pub mod forged;
@@ -44,7 +45,7 @@ pub struct Stored {
 
 /// All stored files: what each program reads, and what it must print.
 pub fn stored() -> Vec<Stored> {
-    let programs = files().into_iter().chain([printed_case()]);
+    let programs = files().into_iter().chain([printed_case(), demo::file()]);
     let pairs = programs.flat_map(|file| {
         let parts = [("stdin", file.stdin), ("stdout", file.stdout.into_bytes())];
         parts.map(|(name, bytes)| Stored {
