@@ -26,16 +26,14 @@ fn usage() -> ExitCode {
     ExitCode::from(2)
 }
 
-/// Writes DIR/PROGRAM/stdin and DIR/PROGRAM/stdout for each program.
+/// Writes every stored file, as DIR/PROGRAM/stdin and DIR/PROGRAM/stdout for each program.
 fn make(folder: &Path) -> std::io::Result<()> {
-    for file in vectors::files()
-        .into_iter()
-        .chain([vectors::printed_case()])
-    {
-        let program = folder.join(file.program);
-        std::fs::create_dir_all(&program)?;
-        std::fs::write(program.join("stdin"), file.stdin)?;
-        std::fs::write(program.join("stdout"), file.stdout)?;
+    for stored in vectors::stored() {
+        let file = folder.join(stored.path);
+        if let Some(parent) = file.parent() {
+            std::fs::create_dir_all(parent)?;
+        }
+        std::fs::write(file, stored.bytes)?;
     }
     Ok(())
 }

@@ -1,3 +1,3 @@
 pub mod Decimal
 pub mod Examples
-mod Appending
+pub mod Appending

@@ -18,7 +18,7 @@ fn last_digit(k: u8) -> u8
 }
 
 // Puts s from `at` on.
-fn append(text: &mut [u8], at: usize, s: &[u8]) -> usize
+pub fn append(text: &mut [u8], at: usize, s: &[u8]) -> usize
     requires { ⌜ at + length (now s) ≤ length (now text) ⌝ }
     ensures { λ r. ⌜ (now (text .exit) ≡ placed (now (text .entry)) «at» (now (s .entry))) × (r ≡ at + length (now (s .entry))) ⌝ }
 {
@@ -43,7 +43,7 @@ fn append_decimal(text: &mut [u8], at: usize, k: u8) -> usize
 }
 
 // Puts a word and a number.
-fn append_number(text: &mut [u8], at: usize, word: &[u8], k: u8) -> usize
+pub fn append_number(text: &mut [u8], at: usize, word: &[u8], k: u8) -> usize
     requires { ⌜ at + length (now word) + 3 ≤ length (now text) ⌝ }
     ensures { λ r. ⌜ (now (text .exit) ≡ placed (now (text .entry)) «at» (numbered (now (word .entry)) k)) × (r ≡ at + length (numbered (now (word .entry)) k)) × (r ≤ at + length (now (word .entry)) + 3) ⌝ }
 {
@@ -52,7 +52,14 @@ fn append_number(text: &mut [u8], at: usize, word: &[u8], k: u8) -> usize
 }
 
 // Puts two words, each with a number.
-fn append_numbers(text: &mut [u8], at: usize, first: &[u8], k: u8, second: &[u8], j: u8) -> usize
+pub fn append_numbers(
+    text: &mut [u8],
+    at: usize,
+    first: &[u8],
+    k: u8,
+    second: &[u8],
+    j: u8,
+) -> usize
     requires { ⌜ at + length (now first) + length (now second) + 6 ≤ length (now text) ⌝ }
     ensures { λ r. ⌜ (now (text .exit) ≡ placed (now (text .entry)) «at» (numbered (now (first .entry)) k ++ numbered (now (second .entry)) j)) × (r ≡ at + length (numbered (now (first .entry)) k ++ numbered (now (second .entry)) j)) × (r ≤ at + length (now (first .entry)) + length (now (second .entry)) + 6) ⌝ }
 {

@@ -9,6 +9,7 @@ pub mod audited;
 pub mod auditing;
 pub mod calls;
 pub mod case;
+pub mod demo;
 pub mod exchange;
 pub mod faults;
 pub mod forged;
@@ -19,6 +20,7 @@ pub mod maps;
 pub mod piece;
 pub mod reading;
 pub mod reporting;
+pub mod samples;
 pub mod session;
 pub mod sessions;
 pub mod simulation;
@@ -33,6 +35,25 @@ pub struct ProgramFile {
     pub program: &'static str,
     pub stdin: Vec<u8>,
     pub stdout: String,
+}
+
+/// A stored file: its path below the folder of all programs, and what it holds.
+pub struct Stored {
+    pub path: String,
+    pub bytes: Vec<u8>,
+}
+
+/// All stored files: what each program reads, and what it must print.
+pub fn stored() -> Vec<Stored> {
+    let programs = files().into_iter().chain([printed_case(), demo::file()]);
+    let pairs = programs.flat_map(|file| {
+        let parts = [("stdin", file.stdin), ("stdout", file.stdout.into_bytes())];
+        parts.map(|(name, bytes)| Stored {
+            path: format!("{}/{name}", file.program),
+            bytes,
+        })
+    });
+    pairs.chain(samples::stored()).collect()
 }
 
 /// The vector file of each program.

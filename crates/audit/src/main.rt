@@ -1,0 +1,145 @@
+// Audits records that lie in files: of scheme 3 with the arguments SYSTEM A B C, of scheme 5 with SYSTEM A B C D.
+//
+// Standard output has the finding: `secret` and the secret's bytes; `clash`, which commitment, and a line for each of the two
+// strings; or `refused` and the number, with 8 also the record and the round. Bytes are hexadecimal digits, two a byte. Where
+// the arguments or the files are no good, standard error says why, and standard output stays empty.
+mod file;
+
+ghost use mathlib.Core.Path.{_≡_};
+ghost use Prim.Native.Nat.{_≤_};
+ghost use lib.ListN.{length};
+ghost use Rattle.slices.specs.Slices.{placed};
+ghost use Rattle.system.specs.System.{nOf};
+ghost use Rattle.auditing.specs.Audit.{auditThree, auditFive};
+ghost use Rattle.audit_lines.specs.AuditLines.{auditText};
+use crate::file::Loaded;
+use crate::file::load;
+use crate::file::record_buffer;
+use crate::file::system_buffer;
+use audit_lines::audit_text;
+use auditing::audit_five;
+use auditing::audit_three;
+use libc::STDERR_FILENO;
+use libc::STDOUT_FILENO;
+use slices::byte_at;
+use slices::part;
+
+// How many words there are with a system and three or four records, the program's name among them.
+const WITH_THREE: usize = 5;
+
+const WITH_FOUR: usize = 6;
+
+fn main() {
+    let mut text = text_buffer();
+    let words = os::arg_count();
+    let written = match words {
+        WITH_THREE => three_files(&mut text),
+        WITH_FOUR => five_files(&mut text),
+        _ => usage(),
+    };
+    print(&text, written);
+}
+
+// Room for the longest text.
+fn text_buffer() -> [u8; 2048]
+    ensures { λ r. ⌜ 2048 ≡ length r ⌝ }
+{
+    [0; 2048]
+}
+
+fn print(text: &[u8; 2048], length: usize) {
+    io::write_all(STDOUT_FILENO, part(text, 0, length));
+}
+
+// Answers that there is no text.
+fn usage() -> usize {
+    io::write_all(STDERR_FILENO, b"usage: audit SYSTEM A B C (scheme 3)\n");
+    io::write_all(STDERR_FILENO, b"       audit SYSTEM A B C D (scheme 5)\n");
+    0
+}
+
+// The text of an audit of scheme 3, and its length.
+fn three_text<'a>(
+    system: &'a [u8],
+    a: &'a [u8],
+    b: &'a [u8],
+    c: &'a [u8],
+    text: &mut [u8; 2048],
+) -> usize
+    ensures { λ r. ⌜ (now (text .exit) ≡ placed (now (text .entry)) 0 (auditText (nOf (now (system .entry))) (auditThree (now (system .entry)) (now (a .entry)) (now (b .entry)) (now (c .entry))))) × (r ≡ length (auditText (nOf (now (system .entry))) (auditThree (now (system .entry)) (now (a .entry)) (now (b .entry)) (now (c .entry))))) ⌝ }
+{
+    audit_text(audit_three(system, a, b, c), byte_at(system, 1), text)
+}
+
+// The same of scheme 5.
+fn five_text<'a>(
+    system: &'a [u8],
+    a: &'a [u8],
+    b: &'a [u8],
+    c: &'a [u8],
+    d: &'a [u8],
+    text: &mut [u8; 2048],
+) -> usize
+    ensures { λ r. ⌜ (now (text .exit) ≡ placed (now (text .entry)) 0 (auditText (nOf (now (system .entry))) (auditFive (now (system .entry)) (now (a .entry)) (now (b .entry)) (now (c .entry)) (now (d .entry))))) × (r ≡ length (auditText (nOf (now (system .entry))) (auditFive (now (system .entry)) (now (a .entry)) (now (b .entry)) (now (c .entry)) (now (d .entry))))) ⌝ }
+{
+    audit_text(audit_five(system, a, b, c, d), byte_at(system, 1), text)
+}
+
+// Reads the four files and audits them.
+fn three_files(text: &mut [u8; 2048]) -> usize {
+    let mut system = system_buffer();
+    let mut a = record_buffer();
+    let mut b = record_buffer();
+    let mut c = record_buffer();
+    let Loaded::Whole(system_length) = load(1, &mut system) else {
+        return 0;
+    };
+    let Loaded::Whole(a_length) = load(2, &mut a) else {
+        return 0;
+    };
+    let Loaded::Whole(b_length) = load(3, &mut b) else {
+        return 0;
+    };
+    let Loaded::Whole(c_length) = load(4, &mut c) else {
+        return 0;
+    };
+    three_text(
+        part(&system, 0, system_length),
+        part(&a, 0, a_length),
+        part(&b, 0, b_length),
+        part(&c, 0, c_length),
+        text,
+    )
+}
+
+// Reads the five files and audits them.
+fn five_files(text: &mut [u8; 2048]) -> usize {
+    let mut system = system_buffer();
+    let mut a = record_buffer();
+    let mut b = record_buffer();
+    let mut c = record_buffer();
+    let mut d = record_buffer();
+    let Loaded::Whole(system_length) = load(1, &mut system) else {
+        return 0;
+    };
+    let Loaded::Whole(a_length) = load(2, &mut a) else {
+        return 0;
+    };
+    let Loaded::Whole(b_length) = load(3, &mut b) else {
+        return 0;
+    };
+    let Loaded::Whole(c_length) = load(4, &mut c) else {
+        return 0;
+    };
+    let Loaded::Whole(d_length) = load(5, &mut d) else {
+        return 0;
+    };
+    five_text(
+        part(&system, 0, system_length),
+        part(&a, 0, a_length),
+        part(&b, 0, b_length),
+        part(&c, 0, c_length),
+        part(&d, 0, d_length),
+        text,
+    )
+}
