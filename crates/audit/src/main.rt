@@ -2,11 +2,11 @@
 //
 // Standard output has the finding: `secret` and the secret's bytes; `clash`, which commitment, and a line for each of the two
 // strings; or `refused` and the number, with 8 also the record and the round. Bytes are hexadecimal digits, two a byte. Where
-// the arguments or the files are no good, standard error says why, and standard output stays empty.
+// the arguments or the files are no good, standard error says why, and standard output stays empty. The exit status is 0 in every
+// case, since a Rattle program has no other.
 mod file;
 
 ghost use mathlib.Core.Path.{_≡_};
-ghost use Prim.Native.Nat.{_≤_};
 ghost use lib.ListN.{length};
 ghost use Rattle.slices.specs.Slices.{placed};
 ghost use Rattle.system.specs.System.{nOf};

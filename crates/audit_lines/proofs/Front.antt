@@ -1,12 +1,11 @@
 -- A text that stands at the front of its buffer, and what an audit's is. Assumes nothing.
-use Prim.Native.Nat.{ℕ, _+_, _≤_}
-use mathlib.Core.Path.{_≡_, refl, sym, ap, ap₂, _∙_}
+use Prim.Native.Nat.{ℕ, _≤_}
+use mathlib.Core.Path.{_≡_, sym, ap, _∙_}
 use mathlib.Core.List.{List}
 use native.Mathlib.Omega.{arith}
 use lib.ListN.{length, take, drop, length-take}
 use Rattle.slices.specs.Slices.{placed}
 use Rattle.report_lines.proofs.Appending.{Appended}
-use Rattle.commitment.specs.declared.Text.{Text}
 use Rattle.auditing.specs.declared.Finding.{Finding}
 use Rattle.auditing.specs.declared.Finding.the-variants.{Secret, Clash, Refused}
 use Rattle.auditing.specs.declared.Audited.{Audited}

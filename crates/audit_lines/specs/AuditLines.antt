@@ -5,7 +5,7 @@ use mathlib.Core.List.{List, [], _∷_, _++_}
 use lib.Dec.{eqb}
 use lib.ListN.{take}
 use Rattle.hex.specs.Hex.{hex}
-use Rattle.report_lines.specs.ReportLines.{numbered, roundWord, refusedWord, lineFeed, refusedLine}
+use Rattle.report_lines.specs.ReportLines.{numbered, roundWord, lineFeed, refusedLine}
 use Rattle.auditing.specs.Outcome.{Outcome, secret, clash, refused}
 
 -- ---- words

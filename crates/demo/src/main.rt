@@ -4,7 +4,8 @@
 // Standard input holds a system, then sessions to its end, 65,536 bytes in all at most. A session is: the scheme and N, a byte
 // each; v (m); s (n); then for each round what is lent to the card, in scheme 5 also α, and the challenge. An argument, if
 // there is one, names the file that the first session's record is written to, the next argument that of the second, and so on.
-// A refusal ends the run: `refused`, its number, and the call.
+// A refusal ends the run: `refused`, its number, and the call. An input that is too long, has no session or ends within one is
+// refused with 2.
 mod filing;
 mod play;
 mod say;
@@ -47,17 +48,28 @@ fn messages_buffer() -> [u8; 343296]
     [0; 343296]
 }
 
-// Plays each session in turn, up to one that is refused.
+// Takes the system from the front of the input. An input that is too long, or has no session, is refused.
 fn run(input: &[u8]) {
-    if 65536 < input.len() {
-        say_refused(2, b"input");
-        return;
-    }
     let system = part(
         input,
         0,
         system_length(byte_at(input, 1), byte_at(input, 2)),
     );
+    if input.len() <= system.len() {
+        say_refused(2, b"input");
+        return;
+    }
+    if 65536 < input.len() {
+        say_refused(2, b"input");
+        return;
+    }
+    play_all(system, input);
+}
+
+// Plays each session in turn, up to one that is refused.
+fn play_all<'a>(system: &'a [u8], input: &'a [u8])
+    requires { ⌜ (length (now system) ≤ length (now input)) × (length (now input) ≤ 65536) ⌝ }
+{
     let mut at = system.len();
     let mut number = 1;
     while at < input.len() {
@@ -82,8 +94,13 @@ fn session<'a>(system: &'a [u8], bytes: &'a [u8], number: usize) -> usize
     let s = part(bytes, 2 + m, n);
     let rounds = part(bytes, 2 + m + n, bytes.len());
     say_start(t);
+    let length = session_length(t);
+    if bytes.len() < length {
+        say_refused(2, b"input");
+        return 0;
+    }
     if acted(t, system, v, s, rounds, number) {
-        session_length(t)
+        length
     } else {
         0
     }

@@ -5,7 +5,7 @@ use mathlib.Core.List.{List, [], _∷_, _++_, append-assoc, append-nil}
 use native.Mathlib.Nat.{add-zero}
 use native.Mathlib.Omega.{arith}
 use native.Mathlib.Numerals.{add-one}
-use lib.ListN.{length, length-append, take, drop, take-append-drop}
+use lib.ListN.{length, take, take-append-drop}
 use lib.Seq.{take-suc, take-all, length-take-le}
 use Rattle.slices.specs.Slices.{_!_, placed}
 use Rattle.slices.proofs.Parts.{placed-append}

@@ -1,6 +1,5 @@
 -- Both digits at once. Assumes nothing.
 use mathlib.Core.Path.{sym}
-use native.Mathlib.Omega.{arith}
 use Rattle.hex.specs.Hex.{hexByte}
 use borrow.Author.Needs.{needs}
 use Rattle.hex.proofs.append_byte.Statement.{statement}

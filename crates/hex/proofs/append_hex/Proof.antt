@@ -1,5 +1,5 @@
 -- A byte a turn. Assumes nothing.
-use Prim.Native.Nat.{_+_, _-_, _*_, _≤_}
+use Prim.Native.Nat.{_-_}
 use native.Mathlib.Omega.{arith}
 use lib.ListN.{length}
 use Rattle.hex.proofs.Digits.{Digits, digits-start, digits-step, digits-end}
