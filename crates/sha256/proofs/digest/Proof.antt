@@ -16,10 +16,10 @@ unfolding digestRefusal unless _orElse_ kept
 digest-spec =
     tie.close
     (tie.spec
-    (λ c. 
+    (λ c.
     let n = length (c .before .before .before .args .message .now) in
     simp (lt-leb n 65535 (omega arith)) (refl, refl))
-    (λ c. 
+    (λ c.
     let start = c .before .before .before .before in
     let n = length (start .args .message .now) in
     let k = length (start .args .out .now) in
