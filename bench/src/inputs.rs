@@ -1,0 +1,130 @@
+//! What is timed: systems of random coefficients, and records of honest sessions, made by the second implementation.
+
+use reference::random::Generator;
+use reference::record::{write, Header, Layout};
+use reference::rounds;
+use reference::scheme::Scheme;
+use reference::system::{length, System};
+
+/// A system of random coefficients, with its sizes in front.
+pub fn system(random: &mut Generator, q: u8, n: u8, m: u8) -> Vec<u8> {
+    let mut bytes = vec![q, n, m];
+    let coefficients = length(usize::from(n), usize::from(m)) - bytes.len();
+    bytes.extend(random.bytes_below(u16::from(q), coefficients));
+    bytes
+}
+
+/// So many random elements.
+pub fn elements(random: &mut Generator, q: u8, count: usize) -> Vec<u8> {
+    random.bytes_below(u16::from(q), count)
+}
+
+/// A card with its key, and what was lent to it for each of its rounds.
+pub struct Card {
+    pub system: Vec<u8>,
+    pub scheme: Scheme,
+    pub s: Vec<u8>,
+    pub v: Vec<u8>,
+    pub lent: Vec<Vec<u8>>,
+}
+
+/// What a carrier asks in a round; three passes have no α.
+#[derive(Clone, Copy)]
+pub struct Question {
+    pub alpha: u8,
+    pub challenge: u8,
+}
+
+/// A record with its parts.
+pub struct Session {
+    pub header: [u8; 5],
+    pub commitments: Vec<u8>,
+    pub exchanges: Vec<u8>,
+    pub record: Vec<u8>,
+}
+
+impl Card {
+    pub fn random(random: &mut Generator, scheme: Scheme, q: u8, n: u8, m: u8, rounds: u8) -> Card {
+        let system = system(random, q, n, m);
+        let read = System::read(&system).expect("a well-formed system");
+        let s = elements(random, q, usize::from(n));
+        let v = reference::map::evaluate(&read, &s);
+        let vectors = 2 * usize::from(n) + usize::from(m);
+        let rhos = scheme.lent_length(read.dimensions()) - vectors;
+        let lent = (0..rounds).map(|_| {
+            let mut lent = elements(random, q, vectors);
+            lent.extend(random.bytes_below(256, rhos));
+            lent
+        });
+        let lent = lent.collect();
+        Card {
+            system,
+            scheme,
+            s,
+            v,
+            lent,
+        }
+    }
+
+    /// The record of an honest session in which each round was asked so.
+    pub fn session(&self, questions: &[Question]) -> Session {
+        let system = System::read(&self.system).expect("a well-formed system");
+        let [q, n, m] = [0, 1, 2].map(|at| self.system[at]);
+        let header = [self.scheme.byte(), q, n, m, questions.len() as u8];
+        let mut commitments = Vec::new();
+        let mut exchanges = Vec::new();
+        for (lent, question) in self.lent.iter().zip(questions) {
+            commitments.extend(rounds::commit(&system, self.scheme, &self.s, lent));
+            if self.scheme == Scheme::FivePass {
+                exchanges.push(question.alpha);
+                exchanges.extend(rounds::answer(&system, question.alpha, lent));
+            }
+            exchanges.push(question.challenge);
+            let reply = rounds::reply(&system, self.scheme, &self.s, lent, question.challenge);
+            exchanges.extend(reply);
+        }
+        let layout = Layout::of(Header::of_bytes(header).expect("a header's values"));
+        Session {
+            header,
+            record: write(layout, &self.v, &commitments, &exchanges),
+            commitments,
+            exchanges,
+        }
+    }
+
+    /// Three sessions of three passes whose last round alone has a full set: the audit looks at every round.
+    pub fn three_records(&self, random: &mut Generator) -> [Vec<u8>; 3] {
+        let last = self.lent.len() - 1;
+        let start = random.below(3);
+        [0, 1, 2].map(|record| {
+            let questions = (0..self.lent.len()).map(|round| {
+                // Before the last round one record is asked what another is.
+                let own = if round == last { record } else { record.min(1) };
+                let challenge = (start + round as u64 + own) % 3;
+                Question {
+                    alpha: 0,
+                    challenge: challenge as u8,
+                }
+            });
+            self.session(&questions.collect::<Vec<_>>()).record
+        })
+    }
+
+    /// Four sessions of five passes that are a full set in every round.
+    pub fn four_records(&self, q: u8) -> [Vec<u8>; 4] {
+        [(0, 0), (0, 1), (1, 0), (1, 1)].map(|(alpha, challenge)| {
+            let alpha = alpha % q;
+            let questions = vec![Question { alpha, challenge }; self.lent.len()];
+            self.session(&questions).record
+        })
+    }
+}
+
+/// Challenges of three passes in turn, so that each is as frequent as in a session.
+pub fn challenges_in_turn(rounds: u8) -> Vec<Question> {
+    let question = |round| Question {
+        alpha: 0,
+        challenge: round % 3,
+    };
+    (0..rounds).map(question).collect()
+}

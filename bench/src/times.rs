@@ -1,0 +1,275 @@
+//! The tables of times.
+
+use crate::inputs::{challenges_in_turn, elements, system, Card};
+use crate::table::{micros, ratio, Table};
+use crate::timing::{best, Effort, Side};
+use crate::{engine, plain};
+use reference::random::Generator;
+use reference::scheme::Scheme;
+use std::hint::black_box;
+
+/// q, n, m of the systems that F and G are timed on.
+const SIZES: [(u8, u8, u8); 4] = [(2, 84, 80), (31, 48, 48), (31, 64, 64), (251, 96, 96)];
+
+/// Bytes of the messages that are hashed.
+const MESSAGES: [usize; 3] = [34, 322, 65_535];
+
+/// The key of the records.
+const KEY: (u8, u8, u8) = (2, 84, 80);
+const ROUNDS: u8 = 52;
+
+pub const COMPARED: &str = "\
+Best of many, in microseconds; the sides take turns. `same form` is Rust in the form of the engine: for F and G the monomials
+once for a vector and then a product of two rows for each polynomial, for SHA-256 FIPS 180-4 as it stands, for a record and an
+audit the same monomials, hashes and checks with no memory from the heap. `nested loops` is the definition's double sum for each
+polynomial. The check of every byte of the system is counted on all sides. The first ratio is the engine's time by that of the
+same form in Rust, and is to be at most the number behind it; the second is the time of the nested loops by the engine's, and is to
+be at least 7.
+
+";
+
+/// Every comparison.
+pub fn compared(effort: Effort) -> String {
+    let mut table = Table::new(&[
+        "what",
+        "size",
+        "Rattle",
+        "Rust, same form",
+        "ratio",
+        "to reach",
+        "Rust, nested loops",
+        "times as fast",
+    ]);
+    let mut random = Generator::from_seed(1);
+    for (q, n, m) in SIZES {
+        maps(effort, &mut table, &mut random, q, n, m);
+    }
+    for length in MESSAGES {
+        hashes(effort, &mut table, &random.bytes_below(256, length));
+    }
+    let (q, n, m) = KEY;
+    let card = Card::random(&mut random, Scheme::ThreePass, q, n, m, ROUNDS);
+    let record = card.session(&challenges_in_turn(ROUNDS)).record;
+    let of_record = format!("{} rounds at {q}, {n}, {m}", ROUNDS);
+    let times = judging(effort, &card.system, &record, ROUNDS);
+    table.row(row("judging a record", &of_record, &times, "1.15"));
+    let records = card.three_records(&mut random);
+    let times = auditing(effort, &card, &records);
+    let of_records = format!("3 records of {of_record}");
+    table.row(row("audit", &of_records, &times, "1.15"));
+    table.text().to_string()
+}
+
+/// A row of the table: the engine's time, that of the same form, and that of the nested loops where there is one.
+fn row(what: &str, size: &str, times: &[f64], reach: &str) -> Vec<String> {
+    let nested = times.get(2);
+    vec![
+        what.to_string(),
+        size.to_string(),
+        micros(times[0]),
+        micros(times[1]),
+        ratio(times[0], times[1]),
+        reach.to_string(),
+        nested.map_or(String::new(), |&time| micros(time)),
+        nested.map_or(String::new(), |&time| ratio(time, times[0])),
+    ]
+}
+
+fn maps(effort: Effort, table: &mut Table, random: &mut Generator, q: u8, n: u8, m: u8) {
+    let bytes = system(random, q, n, m);
+    let x = elements(random, q, usize::from(n));
+    let y = elements(random, q, usize::from(n));
+    let size = format!("{q}, {n}, {m}");
+    table.row(row("F", &size, &evaluating(effort, &bytes, &x), "1.10"));
+    table.row(row("G", &size, &polarising(effort, &bytes, &x, &y), "1.10"));
+}
+
+/// F: the engine, monomials in Rust, nested loops in Rust.
+fn evaluating(effort: Effort, system: &[u8], x: &[u8]) -> Vec<f64> {
+    let m = usize::from(system[2]);
+    let [mut a, mut b, mut c] = [0; 3].map(|_| vec![0; m]);
+    assert_eq!(engine::evaluate(system, x, &mut a), 0);
+    assert_eq!(plain::map::evaluate(system, x, &mut b), Ok(()));
+    assert_eq!(plain::map::nested_evaluate(system, x, &mut c), Ok(()));
+    let read = reference::system::System::read(system).expect("a well-formed system");
+    let expected = reference::map::evaluate(&read, x);
+    assert!([&a, &b, &c].into_iter().all(|out| *out == expected));
+    let mut sides: [Side; 3] = [
+        Box::new(|| {
+            black_box(engine::evaluate(black_box(system), black_box(x), &mut a));
+        }),
+        Box::new(|| {
+            let _ = black_box(plain::map::evaluate(
+                black_box(system),
+                black_box(x),
+                &mut b,
+            ));
+        }),
+        Box::new(|| {
+            let answer = plain::map::nested_evaluate(black_box(system), black_box(x), &mut c);
+            let _ = black_box(answer);
+        }),
+    ];
+    best(effort, &mut sides)
+}
+
+/// G: the same three.
+fn polarising(effort: Effort, system: &[u8], x: &[u8], y: &[u8]) -> Vec<f64> {
+    let m = usize::from(system[2]);
+    let [mut a, mut b, mut c] = [0; 3].map(|_| vec![0; m]);
+    assert_eq!(engine::polar(system, x, y, &mut a), 0);
+    assert_eq!(plain::map::polar(system, x, y, &mut b), Ok(()));
+    assert_eq!(plain::map::nested_polar(system, x, y, &mut c), Ok(()));
+    let read = reference::system::System::read(system).expect("a well-formed system");
+    let expected = reference::map::polar(&read, x, y);
+    assert!([&a, &b, &c].into_iter().all(|out| *out == expected));
+    let mut sides: [Side; 3] = [
+        Box::new(|| {
+            let (system, x, y) = (black_box(system), black_box(x), black_box(y));
+            black_box(engine::polar(system, x, y, &mut a));
+        }),
+        Box::new(|| {
+            let (system, x, y) = (black_box(system), black_box(x), black_box(y));
+            let _ = black_box(plain::map::polar(system, x, y, &mut b));
+        }),
+        Box::new(|| {
+            let (system, x, y) = (black_box(system), black_box(x), black_box(y));
+            let _ = black_box(plain::map::nested_polar(system, x, y, &mut c));
+        }),
+    ];
+    best(effort, &mut sides)
+}
+
+fn hashes(effort: Effort, table: &mut Table, message: &[u8]) {
+    let [mut a, mut b] = [[0; 32]; 2];
+    assert_eq!(engine::digest(message, &mut a), 0);
+    assert_eq!(plain::sha256::digest(message, &mut b), Ok(()));
+    assert!(a == b && a == reference::sha256::sha256(message));
+    let mut sides: [Side; 2] = [
+        Box::new(|| {
+            black_box(engine::digest(black_box(message), &mut a));
+        }),
+        Box::new(|| {
+            let _ = black_box(plain::sha256::digest(black_box(message), &mut b));
+        }),
+    ];
+    let size = format!("{} bytes", message.len());
+    table.row(row("SHA-256", &size, &best(effort, &mut sides), "1.15"));
+}
+
+/// A whole record: the engine, then Rust.
+fn judging(effort: Effort, system: &[u8], record: &[u8], rounds: u8) -> Vec<f64> {
+    assert_eq!(engine::judge(system, record), Ok(rounds));
+    assert_eq!(plain::judge::judge(system, record), Ok(rounds));
+    spoiled(system, record, rounds);
+    let mut sides: [Side; 2] = [
+        Box::new(|| {
+            let _ = black_box(engine::judge(black_box(system), black_box(record)));
+        }),
+        Box::new(|| {
+            let _ = black_box(plain::judge::judge(black_box(system), black_box(record)));
+        }),
+    ];
+    best(effort, &mut sides)
+}
+
+/// Both sides reject a round whose ρ is another, so neither leaves its last round out.
+fn spoiled(system: &[u8], record: &[u8], rounds: u8) {
+    let mut other = record.to_vec();
+    let last = other.len() - 1;
+    other[last] ^= 1;
+    assert_eq!(engine::judge(system, &other), Ok(rounds - 1));
+    assert_eq!(plain::judge::judge(system, &other), Ok(rounds - 1));
+}
+
+/// An audit of three records: the engine, then Rust.
+fn auditing(effort: Effort, card: &Card, records: &[Vec<u8>; 3]) -> Vec<f64> {
+    let system = &card.system[..];
+    let mut secret = [0; 96];
+    secret[..card.s.len()].copy_from_slice(&card.s);
+    assert_eq!(engine::audit_three(system, records), Ok(secret));
+    assert_eq!(plain::audit::audit_three(system, records), Ok(secret));
+    let mut sides: [Side; 2] = [
+        Box::new(|| {
+            let _ = black_box(engine::audit_three(black_box(system), black_box(records)));
+        }),
+        Box::new(|| {
+            let _ = black_box(plain::audit::audit_three(
+                black_box(system),
+                black_box(records),
+            ));
+        }),
+    ];
+    best(effort, &mut sides)
+}
+
+pub const GROWTH: &str = "\
+The engine alone, best of many, in microseconds. F reads m·(n(n+1)/2 + n) coefficients twice, for the check and for the products:
+its time is to grow as n² and as m. A record is judged round by round, after one check of the system: its time is to grow as N.
+
+";
+
+/// The sizes in steps, and the rounds of a record.
+const STEPS: [u8; 12] = [8, 16, 24, 32, 40, 48, 56, 64, 72, 80, 88, 96];
+const COUNTS: [u8; 9] = [1, 2, 4, 8, 16, 32, 64, 128, 255];
+
+pub fn growth(effort: Effort) -> String {
+    let effort = Effort {
+        time: effort.time / 3,
+        turns: effort.turns / 2,
+    };
+    let mut random = Generator::from_seed(2);
+    let mut table = Table::new(&[
+        "n or m",
+        "F, q = 31, m = 64, by n",
+        "by n², relative to n = 96",
+        "F, q = 31, n = 64, by m",
+        "by m, relative to m = 96",
+    ]);
+    let mut time_of_f = |n: u8, m: u8| {
+        let bytes = system(&mut random, 31, n, m);
+        let x = elements(&mut random, 31, usize::from(n));
+        let mut out = vec![0; usize::from(m)];
+        let mut sides: [Side; 1] = [Box::new(|| {
+            black_box(engine::evaluate(black_box(&bytes), black_box(&x), &mut out));
+        })];
+        best(effort, &mut sides)[0]
+    };
+    let by_n = STEPS.map(|n| time_of_f(n, 64));
+    let by_m = STEPS.map(|m| time_of_f(64, m));
+    for (place, step) in STEPS.into_iter().enumerate() {
+        let share = f64::from(step) / 96.0;
+        table.row(vec![
+            step.to_string(),
+            micros(by_n[place]),
+            ratio(by_n[place] / by_n[11], share * share),
+            micros(by_m[place]),
+            ratio(by_m[place] / by_m[11], share),
+        ]);
+    }
+    format!(
+        "{}\n{}",
+        table.text(),
+        growth_of_records(effort, &mut random)
+    )
+}
+
+fn growth_of_records(effort: Effort, random: &mut Generator) -> String {
+    let (q, n, m) = KEY;
+    let judged = format!("judging a record, {q}, {n}, {m}");
+    let mut table = Table::new(&["N", &judged, "for each round"]);
+    let card = Card::random(random, Scheme::ThreePass, q, n, m, 255);
+    for rounds in COUNTS {
+        let record = card.session(&challenges_in_turn(rounds)).record;
+        let mut sides: [Side; 1] = [Box::new(|| {
+            let _ = black_box(engine::judge(black_box(&card.system), black_box(&record)));
+        })];
+        let time = best(effort, &mut sides)[0];
+        table.row(vec![
+            rounds.to_string(),
+            micros(time),
+            micros(time / f64::from(rounds)),
+        ]);
+    }
+    table.text().to_string()
+}
