@@ -1,9 +1,9 @@
 // Rows of bytes: whether all are elements, the product of two rows, and a combination of two.
 use crate::scalar::reduce;
 ghost use mathlib.Core.Path.{_≡_};
-ghost use Prim.Native.Nat.{_+_, _*_, _≤_, _<_, max};
+ghost use Prim.Native.Nat.{_+_, _*_, _%_, _≤_, _<_, max};
 ghost use lib.ListN.{length};
-ghost use Rattle.field.specs.Ops.{ops};
+ghost use Rattle.field.specs.Ops.{modulus, ops};
 ghost use Rattle.slices.specs.Slices.{_!_, tabulate};
 ghost use Rattle.field.specs.Vector.{allBelow, sum};
 ghost use Rattle.field.specs.Row.{largest, products};
@@ -43,9 +43,24 @@ fn wide(x: u8) -> u32
     x as u32
 }
 
-// The sum of the products of at most 512 pairs, which 32 bits hold.
-fn block<'a>(a: &'a [u8], b: &'a [u8]) -> u32
-    requires { ⌜ (length (now a) ≡ length (now b)) × (length (now a) ≤ 512) ⌝ }
+// The sum of the products of 32 pairs. The count is a constant, so that all of it is compiled into a few wide instructions: the
+// products of a whole system spend their time here.
+fn full_block<'a>(a: &'a [u8], b: &'a [u8]) -> u32
+    requires { ⌜ (length (now a) ≡ 32) × (length (now b) ≡ 32) ⌝ }
+    ensures { λ r. ⌜ (r ≡ products (now (a .entry)) (now (b .entry)) (length (now (a .entry)))) × (r ≤ 65025 * length (now (a .entry))) ⌝ }
+{
+    let mut total: u32 = 0;
+    let mut i = 0;
+    while i < 32 {
+        total += wide(a[i]) * wide(b[i]);
+        i += 1;
+    }
+    total
+}
+
+// The sum of the products of fewer pairs.
+fn short_block<'a>(a: &'a [u8], b: &'a [u8]) -> u32
+    requires { ⌜ (length (now a) ≡ length (now b)) × (length (now a) ≤ 32) ⌝ }
     ensures { λ r. ⌜ (r ≡ products (now (a .entry)) (now (b .entry)) (length (now (a .entry)))) × (r ≤ 65025 * length (now (a .entry))) ⌝ }
 {
     let mut total: u32 = 0;
@@ -57,19 +72,45 @@ fn block<'a>(a: &'a [u8], b: &'a [u8]) -> u32
     total
 }
 
+// The sum of the products of at most 32 pairs, which 32 bits hold.
+fn block<'a>(a: &'a [u8], b: &'a [u8]) -> u32
+    requires { ⌜ (length (now a) ≡ length (now b)) × (length (now a) ≤ 32) ⌝ }
+    ensures { λ r. ⌜ (r ≡ products (now (a .entry)) (now (b .entry)) (length (now (a .entry)))) × (r ≤ 65025 * length (now (a .entry))) ⌝ }
+{
+    if a.len() == 32 {
+        full_block(a, b)
+    } else {
+        short_block(a, b)
+    }
+}
+
 // Where a block that starts at `at` ends.
 fn block_end(at: usize, len: usize) -> usize
     requires { ⌜ at < len ⌝ }
-    ensures { λ r. ⌜ (at < r) × (r ≤ len) × (r ≤ at + 512) ⌝ }
+    ensures { λ r. ⌜ (at < r) × (r ≤ len) × (r ≤ at + 32) ⌝ }
 {
-    if len - at <= 512 { len } else { at + 512 }
+    if len - at <= 32 { len } else { at + 32 }
 }
 
-// The sum of the products of a and the front of b, place by place. The running sum has 64 bits, and blocks are summed in
-// 32.
-pub fn dot<'a>(q: u8, a: &'a [u8], b: &'a [u8]) -> u8
+// The last bit of the sum of the products, which is all that the field of two elements keeps: sums of bits are differences, and
+// products are both.
+fn parity<'a>(a: &'a [u8], b: &'a [u8]) -> u8
+    requires { ⌜ length (now a) ≤ length (now b) ⌝ }
+    ensures { λ r. ⌜ r ≡ products (now (a .entry)) (now (b .entry)) (length (now (a .entry))) % 2 ⌝ }
+{
+    let mut bits: u8 = 0;
+    let mut i = 0;
+    while i < a.len() {
+        bits = bits ^ (a[i] & b[i]);
+        i += 1;
+    }
+    bits % 2
+}
+
+// The remainder of the sum of the products. The running sum has 64 bits, and blocks are summed in 32.
+fn remainder<'a>(q: u8, a: &'a [u8], b: &'a [u8]) -> u8
     requires { ⌜ (length (now a) ≤ length (now b)) × (length (now a) ≤ 65536) ⌝ }
-    ensures { λ r. ⌜ r ≡ sum (ops q) (length (now (a .entry))) (λ k. (ops q) .mul (now (a .entry) ! k) (now (b .entry) ! k)) ⌝ }
+    ensures { λ r. ⌜ r ≡ products (now (a .entry)) (now (b .entry)) (length (now (a .entry))) % modulus q ⌝ }
 {
     let mut total: u64 = 0;
     let mut at = 0;
@@ -79,6 +120,18 @@ pub fn dot<'a>(q: u8, a: &'a [u8], b: &'a [u8]) -> u8
         at = end;
     }
     reduce(q, total as u32)
+}
+
+// The sum of the products of a and the front of b, place by place.
+pub fn dot<'a>(q: u8, a: &'a [u8], b: &'a [u8]) -> u8
+    requires { ⌜ (length (now a) ≤ length (now b)) × (length (now a) ≤ 65536) ⌝ }
+    ensures { λ r. ⌜ r ≡ sum (ops q) (length (now (a .entry))) (λ k. (ops q) .mul (now (a .entry) ! k) (now (b .entry) ! k)) ⌝ }
+{
+    if q == 2 {
+        parity(a, b)
+    } else {
+        remainder(q, a, b)
+    }
 }
 
 // a·x + b·y, with one division.
