@@ -1,5 +1,7 @@
 // Rows of bytes: whether all are elements, the product of two rows, and a combination of two.
-use crate::scalar::reduce;
+use crate::scalar::add;
+use crate::scalar::mul;
+use crate::scalar::reduce_total;
 ghost use mathlib.Core.Path.{_≡_};
 ghost use Prim.Native.Nat.{_+_, _*_, _%_, _≤_, _<_, max};
 ghost use lib.ListN.{length};
@@ -43,15 +45,19 @@ fn wide(x: u8) -> u32
     x as u32
 }
 
-// The sum of the products of 32 pairs. The count is a constant, so that all of it is compiled into a few wide instructions: the
-// products of a whole system spend their time here.
+// The sum of the products of 64 pairs. The counts are constants, so that both loops are compiled into one row of wide
+// instructions: the products of a whole system spend their time here.
 fn full_block<'a>(a: &'a [u8], b: &'a [u8]) -> u32
-    requires { ⌜ (length (now a) ≡ 32) × (length (now b) ≡ 32) ⌝ }
-    ensures { λ r. ⌜ (r ≡ products (now (a .entry)) (now (b .entry)) (length (now (a .entry)))) × (r ≤ 65025 * length (now (a .entry))) ⌝ }
+    requires { ⌜ (length (now a) ≡ 64) × (length (now b) ≡ 64) ⌝ }
+    ensures { λ r. ⌜ (r ≡ products (now (a .entry)) (now (b .entry)) (length (now (a .entry)))) × (r ≤ 65025 * 64) ⌝ }
 {
     let mut total: u32 = 0;
     let mut i = 0;
     while i < 32 {
+        total += wide(a[i]) * wide(b[i]);
+        i += 1;
+    }
+    while i < 64 {
         total += wide(a[i]) * wide(b[i]);
         i += 1;
     }
@@ -60,8 +66,8 @@ fn full_block<'a>(a: &'a [u8], b: &'a [u8]) -> u32
 
 // The sum of the products of fewer pairs.
 fn short_block<'a>(a: &'a [u8], b: &'a [u8]) -> u32
-    requires { ⌜ (length (now a) ≡ length (now b)) × (length (now a) ≤ 32) ⌝ }
-    ensures { λ r. ⌜ (r ≡ products (now (a .entry)) (now (b .entry)) (length (now (a .entry)))) × (r ≤ 65025 * length (now (a .entry))) ⌝ }
+    requires { ⌜ (length (now a) ≡ length (now b)) × (length (now a) ≤ 64) ⌝ }
+    ensures { λ r. ⌜ (r ≡ products (now (a .entry)) (now (b .entry)) (length (now (a .entry)))) × (r ≤ 65025 * 64) ⌝ }
 {
     let mut total: u32 = 0;
     let mut i = 0;
@@ -70,26 +76,6 @@ fn short_block<'a>(a: &'a [u8], b: &'a [u8]) -> u32
         i += 1;
     }
     total
-}
-
-// The sum of the products of at most 32 pairs, which 32 bits hold.
-fn block<'a>(a: &'a [u8], b: &'a [u8]) -> u32
-    requires { ⌜ (length (now a) ≡ length (now b)) × (length (now a) ≤ 32) ⌝ }
-    ensures { λ r. ⌜ (r ≡ products (now (a .entry)) (now (b .entry)) (length (now (a .entry)))) × (r ≤ 65025 * length (now (a .entry))) ⌝ }
-{
-    if a.len() == 32 {
-        full_block(a, b)
-    } else {
-        short_block(a, b)
-    }
-}
-
-// Where a block that starts at `at` ends.
-fn block_end(at: usize, len: usize) -> usize
-    requires { ⌜ at < len ⌝ }
-    ensures { λ r. ⌜ (at < r) × (r ≤ len) × (r ≤ at + 32) ⌝ }
-{
-    if len - at <= 32 { len } else { at + 32 }
 }
 
 // The last bit of the sum of the products, which is all that the field of two elements keeps: sums of bits are differences, and
@@ -114,12 +100,14 @@ fn remainder<'a>(q: u8, a: &'a [u8], b: &'a [u8]) -> u8
 {
     let mut total: u64 = 0;
     let mut at = 0;
-    while at < a.len() {
-        let end = block_end(at, a.len());
-        total += block(&a[at..end], &b[at..end]) as u64;
+    while 64 <= a.len() - at {
+        let end = at + 64;
+        total += full_block(&a[at..end], &b[at..end]) as u64;
         at = end;
     }
-    reduce(q, total as u32)
+    let end = a.len();
+    total += short_block(&a[at..end], &b[at..end]) as u64;
+    reduce_total(q, total as u32)
 }
 
 // The sum of the products of a and the front of b, place by place.
@@ -134,11 +122,11 @@ pub fn dot<'a>(q: u8, a: &'a [u8], b: &'a [u8]) -> u8
     }
 }
 
-// a·x + b·y, with one division.
+// a·x + b·y.
 fn blend(q: u8, a: u8, x: u8, b: u8, y: u8) -> u8
     ensures { λ r. ⌜ r ≡ (ops q) .add ((ops q) .mul a x) ((ops q) .mul b y) ⌝ }
 {
-    reduce(q, a as u32 * x as u32 + b as u32 * y as u32)
+    add(q, mul(q, a, x), mul(q, b, y))
 }
 
 // Fills out with a·x + b·y, place by place.
