@@ -9,7 +9,7 @@ use reference::scheme::Scheme;
 
 pub const MEASURED: &str = "\
 The lowest byte of a painted stack that a call changes, at n = m = 96 and q = 251 (the report: q = 31, n = m = 48, which its
-65,536 bytes hold), over every challenge; the harness's own frame of some 100 bytes is counted too. A session's calls take
+65,536 bytes hold), over every challenge; the harness's own call is counted too, some 20 to 100 bytes. A session's calls take
 and return the session by value and are measured together, as one round in one function, whose own copies of the session count.
 The engine takes no memory from the heap and calls nothing recursively, so these do not grow with the input.
 

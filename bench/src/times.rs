@@ -19,12 +19,17 @@ const KEY: (u8, u8, u8) = (2, 84, 80);
 const ROUNDS: u8 = 52;
 
 pub const COMPARED: &str = "\
-Best of many, in microseconds; the sides take turns. `same form` is Rust in the form of the engine: for F and G the monomials
-once for a vector and then a product of two rows for each polynomial, for SHA-256 FIPS 180-4 as it stands, for a record and an
-audit the same monomials, hashes and checks with no memory from the heap. `nested loops` is the definition's double sum for each
-polynomial. The check of every byte of the system is counted on all sides. The first ratio is the engine's time by that of the
-same form in Rust, and is to be at most the number behind it; the second is the time of the nested loops by the engine's, and is to
-be at least 7.
+Best of many, in microseconds; the sides take turns.
+
+- `same form` is Rust in the form of the engine. F and G: the monomials once for a vector, then for each polynomial a product of two
+  rows, in blocks of constant length, or by bits where q = 2. SHA-256: FIPS 180-4 as it stands, with no intrinsics. A record and an
+  audit: the same monomials, hashes and checks of every byte, with no memory from the heap, and compiled apart for each q. No side
+  puts the system in another form first, as in packed bits.
+- `nested loops` is the definition: for each polynomial the double sum over i ≤ j in a running sum of 64 bits, with one division. G
+  is the sum of the a(i,j)·(x_i·y_j + x_j·y_i).
+
+The check of every byte of the system is counted on all sides. The first ratio is the engine's time by that of the same form in Rust,
+and is to be at most the number behind it; the second is the time of the nested loops by the engine's, and is to be at least 7.
 
 ";
 

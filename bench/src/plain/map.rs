@@ -111,12 +111,41 @@ pub fn g<const Q: u32>(system: &[u8], x: &[u8], y: &[u8], out: &mut [u8]) {
     times_rows::<Q>(system, x.len(), &row, out);
 }
 
-/// Each polynomial's coefficients times the monomials. A whole row is at most 4,752 × 250 × 250, which 32 bits hold.
+/// Each polynomial's coefficients times the monomials.
 fn times_rows<const Q: u32>(system: &[u8], n: usize, monomials: &[u8; MOST], out: &mut [u8]) {
     let monomials = &monomials[..width(n)];
     for (value, row) in out.iter_mut().zip(system[3..].chunks_exact(width(n))) {
-        let products = row.iter().zip(monomials);
-        let sum: u32 = products.map(|(&a, &x)| u32::from(a) * u32::from(x)).sum();
-        *value = (sum % Q) as u8;
+        *value = if Q == 2 {
+            parity(row, monomials)
+        } else {
+            (sum_of_products(row, monomials) % Q) as u8
+        };
     }
+}
+
+/// The last bit of the sum of the products.
+fn parity(row: &[u8], monomials: &[u8]) -> u8 {
+    let products = row.iter().zip(monomials);
+    products.fold(0, |bits, (&a, &x)| bits ^ (a & x)) & 1
+}
+
+/// A whole row is at most 4,752 × 250 × 250, which 32 bits hold. The counts are constants, so that a block is compiled into wide
+/// instructions; one sum over the whole row takes twice as long.
+fn sum_of_products(row: &[u8], monomials: &[u8]) -> u32 {
+    let product = |a: u8, x: u8| u32::from(a) * u32::from(x);
+    let (blocks, rest) = row.as_chunks::<64>();
+    let (others, last) = monomials.as_chunks::<64>();
+    let mut total = 0;
+    for (a, x) in blocks.iter().zip(others) {
+        let mut sum = 0;
+        for i in 0..32 {
+            sum += product(a[i], x[i]);
+        }
+        for i in 32..64 {
+            sum += product(a[i], x[i]);
+        }
+        total += sum;
+    }
+    let rest: u32 = rest.iter().zip(last).map(|(&a, &x)| product(a, x)).sum();
+    total + rest
 }

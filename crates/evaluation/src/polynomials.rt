@@ -8,8 +8,16 @@ ghost use Rattle.field.specs.Ops.{ops};
 ghost use Rattle.system.specs.System.{systemRefusal, F, G};
 ghost use Rattle.evaluation.specs.Monomials.{Monomials, timesRow};
 
-// The monomials of x, y, z and t in the stored order of coefficients.
-fn monomials(q: u8, n: u8, x: [u8; 96], y: [u8; 96], z: [u8; 96], t: [u8; 96]) -> [u8; 4752]
+// The monomials of x, y, z and t in the stored order of coefficients. `sparse` says that z is 0, and only saves time.
+fn monomials(
+    q: u8,
+    n: u8,
+    x: [u8; 96],
+    y: [u8; 96],
+    z: [u8; 96],
+    t: [u8; 96],
+    sparse: bool,
+) -> [u8; 4752]
     requires { ⌜ n ≤ 96 ⌝ }
     ensures { λ r. ⌜ Monomials (ops q) n x y z t r ⌝ }
 {
@@ -19,7 +27,15 @@ fn monomials(q: u8, n: u8, x: [u8; 96], y: [u8; 96], z: [u8; 96], t: [u8; 96]) -
     let mut i = 0;
     while i < end {
         let next = at + (end - i);
-        combine(q, x[i], &y[i..end], z[i], &x[i..end], &mut row[at..next]);
+        combine(
+            q,
+            x[i],
+            &y[i..end],
+            z[i],
+            &x[i..end],
+            &mut row[at..next],
+            sparse,
+        );
         at = next;
         i += 1;
     }
@@ -51,7 +67,10 @@ pub fn f(system: &[u8], x: [u8; 96]) -> [u8; 96]
     requires { ⌜ systemRefusal (now system) ≡ 0 ⌝ }
     ensures { λ r. ⌜ r ≡ F (now (system .entry)) x ⌝ }
 {
-    products(system, monomials(system[0], system[1], x, x, [0; 96], x))
+    products(
+        system,
+        monomials(system[0], system[1], x, x, [0; 96], x, true),
+    )
 }
 
 // G(x, y).
@@ -59,5 +78,8 @@ pub fn g(system: &[u8], x: [u8; 96], y: [u8; 96]) -> [u8; 96]
     requires { ⌜ systemRefusal (now system) ≡ 0 ⌝ }
     ensures { λ r. ⌜ r ≡ G (now (system .entry)) x y ⌝ }
 {
-    products(system, monomials(system[0], system[1], x, y, y, [0; 96]))
+    products(
+        system,
+        monomials(system[0], system[1], x, y, y, [0; 96], false),
+    )
 }

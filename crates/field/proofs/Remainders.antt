@@ -11,13 +11,13 @@ use Rattle.field.proofs.Prime.{Prime, euclid}
 
 -- ---- products of remainders
 
-mod-mul : (a b p : ℕ) → a % p * b % p ≡ a * b % p
+pub mod-mul : (a b p : ℕ) → a % p * b % p ≡ a * b % p
 mod-mul a b p = sym (ap (λ (k : ℕ). k % p) split ∙ mul-add-mod-self-left p (a / p * b) (a % p * b))
   where
     split : a * b ≡ p * (a / p * b) + a % p * b
     split = ap (λ (k : ℕ). k * b) (sym (div-add-mod a p)) ∙ add-mul _ _ b ∙ ap (λ (k : ℕ). k + a % p * b) (mul-assoc p (a / p) b)
 
-mul-mod : (a b p : ℕ) → a * (b % p) % p ≡ a * b % p
+pub mul-mod : (a b p : ℕ) → a * (b % p) % p ≡ a * b % p
 mul-mod a b p = ap (λ (k : ℕ). k % p) (mul-comm a (b % p)) ∙ mod-mul b a p ∙ ap (λ (k : ℕ). k % p) (mul-comm b a)
 
 -- ---- differences

@@ -1,9 +1,9 @@
 -- What the loops over rows hold: the largest byte, sums of products, a row that is being filled. Assumes nothing.
 use Prim.Native.Nat.{ℕ, zero, suc, _+_, _-_, _*_, _%_, _≤_, _<_, max}
-use mathlib.Core.Path.{_≡_, refl, sym, ap, ap₂, subst, _∙_}
+use mathlib.Core.Path.{_≡_, refl, sym, ap, ap₂, subst, fun-ext, _∙_}
 use mathlib.Core.Bool.{Bool, true, false, _&&_, and-true}
 use mathlib.Core.List.{List, [], _∷_, _++_, append-assoc, append-nil}
-use native.Mathlib.Nat.{add-zero, add-suc, add-assoc, zero-mod, add-mod, not-suc-le-zero, max-zero}
+use native.Mathlib.Nat.{add-zero, add-suc, add-assoc, zero-mul, zero-mod, mod-mod, add-mod, not-suc-le-zero, max-zero}
 use native.Mathlib.Numerals.{add-one}
 use native.Mathlib.Omega.{arith}
 use lib.Dec.{ltb}
@@ -83,3 +83,14 @@ pub products-sum : (q : ℕ) (a b : List ℕ) (k : ℕ) → products a b k % mod
 unfolding products sum ops
 products-sum q a b zero = zero-mod (modulus q)
 products-sum q a b (suc k) = add-mod (products a b k) (a ! k * b ! k) (modulus q) ∙ ap (λ (t : ℕ). (t + a ! k * b ! k % modulus q) % modulus q) (products-sum q a b k)
+
+-- ---- a combination of two rows whose second factor is 0
+
+no-second : (s l p : ℕ) → s % p ≡ (s % p + 0 * l % p) % p
+no-second s l p =
+    sym (ap (λ (k : ℕ). (s % p + k) % p) (ap (λ (k : ℕ). k % p) (zero-mul l) ∙ zero-mod p) ∙ ap (λ (k : ℕ). k % p) (add-zero (s % p)) ∙ mod-mod s p)
+
+pub scaled : (q a b : ℕ) (x y : List ℕ) (n : ℕ) → b ≡ 0 →
+    tabulate n (λ i. (ops q) .mul a (x ! i)) ≡ tabulate n (λ i. (ops q) .add ((ops q) .mul a (x ! i)) ((ops q) .mul b (y ! i)))
+unfolding ops
+scaled q a b x y n e = rw e (ap (tabulate n) (fun-ext (λ i. no-second (a * x ! i) (y ! i) (modulus q))))

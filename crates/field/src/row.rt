@@ -1,9 +1,11 @@
 // Rows of bytes: whether all are elements, the product of two rows, and a combination of two.
-use crate::scalar::reduce;
+use crate::scalar::add;
+use crate::scalar::mul;
+use crate::scalar::reduce_total;
 ghost use mathlib.Core.Path.{_≡_};
-ghost use Prim.Native.Nat.{_+_, _*_, _≤_, _<_, max};
+ghost use Prim.Native.Nat.{_+_, _*_, _%_, _≤_, _<_, max};
 ghost use lib.ListN.{length};
-ghost use Rattle.field.specs.Ops.{ops};
+ghost use Rattle.field.specs.Ops.{modulus, ops};
 ghost use Rattle.slices.specs.Slices.{_!_, tabulate};
 ghost use Rattle.field.specs.Vector.{allBelow, sum};
 ghost use Rattle.field.specs.Row.{largest, products};
@@ -43,10 +45,29 @@ fn wide(x: u8) -> u32
     x as u32
 }
 
-// The sum of the products of at most 512 pairs, which 32 bits hold.
-fn block<'a>(a: &'a [u8], b: &'a [u8]) -> u32
-    requires { ⌜ (length (now a) ≡ length (now b)) × (length (now a) ≤ 512) ⌝ }
-    ensures { λ r. ⌜ (r ≡ products (now (a .entry)) (now (b .entry)) (length (now (a .entry)))) × (r ≤ 65025 * length (now (a .entry))) ⌝ }
+// The sum of the products of 64 pairs. The counts are constants, so that both loops are compiled into one row of wide
+// instructions: the products of a whole system spend their time here.
+fn full_block<'a>(a: &'a [u8], b: &'a [u8]) -> u32
+    requires { ⌜ (length (now a) ≡ 64) × (length (now b) ≡ 64) ⌝ }
+    ensures { λ r. ⌜ (r ≡ products (now (a .entry)) (now (b .entry)) (length (now (a .entry)))) × (r ≤ 65025 * 64) ⌝ }
+{
+    let mut total: u32 = 0;
+    let mut i = 0;
+    while i < 32 {
+        total += wide(a[i]) * wide(b[i]);
+        i += 1;
+    }
+    while i < 64 {
+        total += wide(a[i]) * wide(b[i]);
+        i += 1;
+    }
+    total
+}
+
+// The sum of the products of fewer pairs.
+fn short_block<'a>(a: &'a [u8], b: &'a [u8]) -> u32
+    requires { ⌜ (length (now a) ≡ length (now b)) × (length (now a) ≤ 64) ⌝ }
+    ensures { λ r. ⌜ (r ≡ products (now (a .entry)) (now (b .entry)) (length (now (a .entry)))) × (r ≤ 65025 * 64) ⌝ }
 {
     let mut total: u32 = 0;
     let mut i = 0;
@@ -57,39 +78,71 @@ fn block<'a>(a: &'a [u8], b: &'a [u8]) -> u32
     total
 }
 
-// Where a block that starts at `at` ends.
-fn block_end(at: usize, len: usize) -> usize
-    requires { ⌜ at < len ⌝ }
-    ensures { λ r. ⌜ (at < r) × (r ≤ len) × (r ≤ at + 512) ⌝ }
+// The last bit of the sum of the products, which is all that the field of two elements keeps: sums of bits are differences, and
+// products are both.
+fn parity<'a>(a: &'a [u8], b: &'a [u8]) -> u8
+    requires { ⌜ length (now a) ≤ length (now b) ⌝ }
+    ensures { λ r. ⌜ r ≡ products (now (a .entry)) (now (b .entry)) (length (now (a .entry))) % 2 ⌝ }
 {
-    if len - at <= 512 { len } else { at + 512 }
+    let mut bits: u8 = 0;
+    let mut i = 0;
+    while i < a.len() {
+        bits = bits ^ (a[i] & b[i]);
+        i += 1;
+    }
+    bits % 2
 }
 
-// The sum of the products of a and the front of b, place by place. The running sum has 64 bits, and blocks are summed in
-// 32.
+// The remainder of the sum of the products. The running sum has 64 bits, and blocks are summed in 32.
+fn remainder<'a>(q: u8, a: &'a [u8], b: &'a [u8]) -> u8
+    requires { ⌜ (length (now a) ≤ length (now b)) × (length (now a) ≤ 65536) ⌝ }
+    ensures { λ r. ⌜ r ≡ products (now (a .entry)) (now (b .entry)) (length (now (a .entry))) % modulus q ⌝ }
+{
+    let mut total: u64 = 0;
+    let mut at = 0;
+    while 64 <= a.len() - at {
+        let end = at + 64;
+        total += full_block(&a[at..end], &b[at..end]) as u64;
+        at = end;
+    }
+    let end = a.len();
+    total += short_block(&a[at..end], &b[at..end]) as u64;
+    reduce_total(q, total as u32)
+}
+
+// The sum of the products of a and the front of b, place by place.
 pub fn dot<'a>(q: u8, a: &'a [u8], b: &'a [u8]) -> u8
     requires { ⌜ (length (now a) ≤ length (now b)) × (length (now a) ≤ 65536) ⌝ }
     ensures { λ r. ⌜ r ≡ sum (ops q) (length (now (a .entry))) (λ k. (ops q) .mul (now (a .entry) ! k) (now (b .entry) ! k)) ⌝ }
 {
-    let mut total: u64 = 0;
-    let mut at = 0;
-    while at < a.len() {
-        let end = block_end(at, a.len());
-        total += block(&a[at..end], &b[at..end]) as u64;
-        at = end;
+    if q == 2 {
+        parity(a, b)
+    } else {
+        remainder(q, a, b)
     }
-    reduce(q, total as u32)
 }
 
-// a·x + b·y, with one division.
+// a·x + b·y.
 fn blend(q: u8, a: u8, x: u8, b: u8, y: u8) -> u8
     ensures { λ r. ⌜ r ≡ (ops q) .add ((ops q) .mul a x) ((ops q) .mul b y) ⌝ }
 {
-    reduce(q, a as u32 * x as u32 + b as u32 * y as u32)
+    add(q, mul(q, a, x), mul(q, b, y))
+}
+
+// Fills out with a·x, place by place.
+fn scale(q: u8, a: u8, x: &[u8], out: &mut [u8])
+    requires { ⌜ length (now out) ≤ length (now x) ⌝ }
+    ensures { λ _. ⌜ now (out .exit) ≡ tabulate (length (now (out .entry))) (λ i. (ops q) .mul a (now (x .entry) ! i)) ⌝ }
+{
+    let mut i = 0;
+    while i < out.len() {
+        out[i] = mul(q, a, x[i]);
+        i += 1;
+    }
 }
 
 // Fills out with a·x + b·y, place by place.
-pub fn combine<'a>(q: u8, a: u8, x: &'a [u8], b: u8, y: &'a [u8], out: &mut [u8])
+fn blend_rows<'a>(q: u8, a: u8, x: &'a [u8], b: u8, y: &'a [u8], out: &mut [u8])
     requires { ⌜ (length (now out) ≤ length (now x)) × (length (now out) ≤ length (now y)) ⌝ }
     ensures { λ _. ⌜ now (out .exit) ≡ tabulate (length (now (out .entry))) (λ i. (ops q) .add ((ops q) .mul a (now (x .entry) ! i)) ((ops q) .mul b (now (y .entry) ! i))) ⌝ }
 {
@@ -97,5 +150,30 @@ pub fn combine<'a>(q: u8, a: u8, x: &'a [u8], b: u8, y: &'a [u8], out: &mut [u8]
     while i < out.len() {
         out[i] = blend(q, a, x[i], b, y[i]);
         i += 1;
+    }
+}
+
+// The same, with one product a place where b is 0.
+fn sparse_rows<'a>(q: u8, a: u8, x: &'a [u8], b: u8, y: &'a [u8], out: &mut [u8])
+    requires { ⌜ (length (now out) ≤ length (now x)) × (length (now out) ≤ length (now y)) ⌝ }
+    ensures { λ _. ⌜ now (out .exit) ≡ tabulate (length (now (out .entry))) (λ i. (ops q) .add ((ops q) .mul a (now (x .entry) ! i)) ((ops q) .mul b (now (y .entry) ! i))) ⌝ }
+{
+    if b == 0 {
+        scale(q, a, x, out);
+    } else {
+        blend_rows(q, a, x, b, y, out);
+    }
+}
+
+// Fills out with a·x + b·y, place by place. `sparse` says that b is often 0, and is for saving time alone: without it the time
+// taken does not tell what b is, which may be secret.
+pub fn combine<'a>(q: u8, a: u8, x: &'a [u8], b: u8, y: &'a [u8], out: &mut [u8], sparse: bool)
+    requires { ⌜ (length (now out) ≤ length (now x)) × (length (now out) ≤ length (now y)) ⌝ }
+    ensures { λ _. ⌜ now (out .exit) ≡ tabulate (length (now (out .entry))) (λ i. (ops q) .add ((ops q) .mul a (now (x .entry) ! i)) ((ops q) .mul b (now (y .entry) ! i))) ⌝ }
+{
+    if sparse {
+        sparse_rows(q, a, x, b, y, out);
+    } else {
+        blend_rows(q, a, x, b, y, out);
     }
 }

@@ -20,12 +20,12 @@ use Rattle.evaluation.proofs.polynomials.monomials.Statement.{statement
 use Rattle.evaluation.proofs.polynomials.monomials.Tie as tie
 
 abbrev Inv-loop : tie.InvT-loop
-Inv-loop q n x y z t row₀ end at₀ i₀ row at i =
+Inv-loop q n sparse x y z t row₀ end at₀ i₀ row at i =
     (end ≡ n) × (i ≤ n) × (at ≡ triangle n i) × (length row ≡ 4752) ×
     Rows (ops q) n i x y z row
 
 abbrev μ-loop : tie.MeasureT-loop
-μ-loop q n x y z t row₀ end at₀ i₀ row at i = n - i
+μ-loop q n sparse x y z t row₀ end at₀ i₀ row at i = n - i
 
 -- ---- what is known in a turn
 

@@ -8,8 +8,8 @@ use lib.ListN.{length, drop, length-set}
 use Rattle.field.specs.Ops.{ops}
 use Rattle.slices.specs.Slices.{_!_, tabulate}
 use Rattle.slices.proofs.Tabulate.{fill-start, fill-step, fill-end}
-use Rattle.field.proofs.row.combine.Statement.{statement}
-use Rattle.field.proofs.row.combine.Tie as tie
+use Rattle.field.proofs.row.blend_rows.Statement.{statement}
+use Rattle.field.proofs.row.blend_rows.Tie as tie
 
 abbrev Inv-loop : tie.InvT-loop
 Inv-loop q a x b y out₀ i₀ out i =
@@ -19,8 +19,8 @@ Inv-loop q a x b y out₀ i₀ out i =
 abbrev μ-loop : tie.MeasureT-loop
 μ-loop q a x b y out₀ i₀ out i = length out₀ - i
 
-pub combine-spec : {M : Type 1} → statement M
-combine-spec =
+pub blend-rows-spec : {M : Type 1} → statement M
+blend-rows-spec =
     tie.close
     (tie.spec
     Inv-loop
