@@ -78,21 +78,6 @@ fn short_block<'a>(a: &'a [u8], b: &'a [u8]) -> u32
     total
 }
 
-// The last bit of the sum of the products, which is all that the field of two elements keeps: sums of bits are differences, and
-// products are both.
-fn parity<'a>(a: &'a [u8], b: &'a [u8]) -> u8
-    requires { ⌜ length (now a) ≤ length (now b) ⌝ }
-    ensures { λ r. ⌜ r ≡ products (now (a .entry)) (now (b .entry)) (length (now (a .entry))) % 2 ⌝ }
-{
-    let mut bits: u8 = 0;
-    let mut i = 0;
-    while i < a.len() {
-        bits = bits ^ (a[i] & b[i]);
-        i += 1;
-    }
-    bits % 2
-}
-
 // The remainder of the sum of the products. The running sum has 64 bits, and blocks are summed in 32.
 fn remainder<'a>(q: u8, a: &'a [u8], b: &'a [u8]) -> u8
     requires { ⌜ (length (now a) ≤ length (now b)) × (length (now a) ≤ 65536) ⌝ }
@@ -115,11 +100,7 @@ pub fn dot<'a>(q: u8, a: &'a [u8], b: &'a [u8]) -> u8
     requires { ⌜ (length (now a) ≤ length (now b)) × (length (now a) ≤ 65536) ⌝ }
     ensures { λ r. ⌜ r ≡ sum (ops q) (length (now (a .entry))) (λ k. (ops q) .mul (now (a .entry) ! k) (now (b .entry) ! k)) ⌝ }
 {
-    if q == 2 {
-        parity(a, b)
-    } else {
-        remainder(q, a, b)
-    }
+    remainder(q, a, b)
 }
 
 // a·x + b·y.
