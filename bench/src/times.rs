@@ -22,7 +22,7 @@ pub const COMPARED: &str = "\
 Best of many, in microseconds; the sides take turns.
 
 - `same form` is Rust in the form of the engine. F and G: the monomials once for a vector, then for each polynomial a product of two
-  rows, in blocks of constant length, or by bits where q = 2. SHA-256: FIPS 180-4 as it stands, with no intrinsics. A record and an
+  rows, in blocks of constant length. SHA-256: FIPS 180-4 as it stands, with no intrinsics. A record and an
   audit: the same monomials, hashes and checks of every byte, with no memory from the heap, and compiled apart for each q. No side
   puts the system in another form first, as in packed bits.
 - `nested loops` is the definition: for each polynomial the double sum over i ≤ j in a running sum of 64 bits, with one division. G
