@@ -1,4 +1,4 @@
-//! Links the engine's archive, which `rt staticlib bench_entries` makes.
+//! Links the archive that `rt staticlib bench_entries` makes; the crate `canvasfox` links that of the C interface.
 
 use std::path::Path;
 

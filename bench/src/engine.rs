@@ -1,34 +1,11 @@
-//! The proved engine: the functions of the crate `bench_entries`, by the C interface. A slice is passed as its address and its
-//! length, one after the other.
+//! The proved engine: the C interface by its Rust crate, and what that lacks by the functions of the crate `bench_entries`. A slice
+//! is passed as its address and its length, one after the other.
+
+pub use canvasfox::slices::{evaluate, polar, record_read, report, sha256, simulate, system_check};
+use canvasfox::Finding;
 
 mod c {
     extern "C" {
-        pub fn bench_check(system: *const u8, system_len: usize) -> u8;
-        pub fn bench_evaluate(
-            system: *const u8,
-            system_len: usize,
-            x: *const u8,
-            x_len: usize,
-            out: *mut u8,
-            out_len: usize,
-        ) -> u8;
-        pub fn bench_polar(
-            system: *const u8,
-            system_len: usize,
-            x: *const u8,
-            x_len: usize,
-            y: *const u8,
-            y_len: usize,
-            out: *mut u8,
-            out_len: usize,
-        ) -> u8;
-        pub fn bench_digest(
-            message: *const u8,
-            message_len: usize,
-            out: *mut u8,
-            out_len: usize,
-        ) -> u8;
-        pub fn bench_read(bytes: *const u8, bytes_len: usize) -> u8;
         pub fn bench_write(
             scheme: u8,
             q: u8,
@@ -44,56 +21,12 @@ mod c {
             out: *mut u8,
             out_len: usize,
         ) -> u8;
-        pub fn bench_report(
-            input: *const u8,
-            input_len: usize,
-            text: *mut u8,
-            text_len: usize,
-        ) -> usize;
-        pub fn bench_simulate(
-            system: *const u8,
-            system_len: usize,
-            v: *const u8,
-            v_len: usize,
-            guess: u8,
-            challenge: u8,
-            lent: *const u8,
-            lent_len: usize,
-            commitments: *mut u8,
-            commitments_len: usize,
-            reply: *mut u8,
-            reply_len: usize,
-        ) -> u8;
         pub fn bench_judge(
             system: *const u8,
             system_len: usize,
             bytes: *const u8,
             bytes_len: usize,
             accepted: *mut u8,
-        ) -> u8;
-        pub fn bench_audit_three(
-            system: *const u8,
-            system_len: usize,
-            a: *const u8,
-            a_len: usize,
-            b: *const u8,
-            b_len: usize,
-            c: *const u8,
-            c_len: usize,
-            secret: *mut [u8; 96],
-        ) -> u8;
-        pub fn bench_audit_five(
-            system: *const u8,
-            system_len: usize,
-            a: *const u8,
-            a_len: usize,
-            b: *const u8,
-            b_len: usize,
-            c: *const u8,
-            c_len: usize,
-            d: *const u8,
-            d_len: usize,
-            secret: *mut [u8; 96],
         ) -> u8;
         pub fn bench_card(
             system: *const u8,
@@ -132,51 +65,6 @@ mod c {
     }
 }
 
-/// The check of a system: the refusal's number.
-pub fn check(system: &[u8]) -> u8 {
-    unsafe { c::bench_check(system.as_ptr(), system.len()) }
-}
-
-/// F(x) into `out`: the refusal's number.
-pub fn evaluate(system: &[u8], x: &[u8], out: &mut [u8]) -> u8 {
-    unsafe {
-        c::bench_evaluate(
-            system.as_ptr(),
-            system.len(),
-            x.as_ptr(),
-            x.len(),
-            out.as_mut_ptr(),
-            out.len(),
-        )
-    }
-}
-
-/// G(x, y) into `out`: the refusal's number.
-pub fn polar(system: &[u8], x: &[u8], y: &[u8], out: &mut [u8]) -> u8 {
-    unsafe {
-        c::bench_polar(
-            system.as_ptr(),
-            system.len(),
-            x.as_ptr(),
-            x.len(),
-            y.as_ptr(),
-            y.len(),
-            out.as_mut_ptr(),
-            out.len(),
-        )
-    }
-}
-
-/// SHA-256 into `out`: the refusal's number.
-pub fn digest(message: &[u8], out: &mut [u8; 32]) -> u8 {
-    unsafe { c::bench_digest(message.as_ptr(), message.len(), out.as_mut_ptr(), out.len()) }
-}
-
-/// The reader of records: the refusal's number.
-pub fn read(record: &[u8]) -> u8 {
-    unsafe { c::bench_read(record.as_ptr(), record.len()) }
-}
-
 /// The writer of records, of scheme, q, n, m and N: the refusal's number.
 pub fn write(
     [scheme, q, n, m, rounds]: [u8; 5],
@@ -204,39 +92,6 @@ pub fn write(
     }
 }
 
-/// The report on an input into `text`: its length.
-pub fn report(input: &[u8], text: &mut [u8; 8192]) -> usize {
-    unsafe { c::bench_report(input.as_ptr(), input.len(), text.as_mut_ptr(), text.len()) }
-}
-
-/// A simulated round: the refusal's number.
-pub fn simulate(
-    system: &[u8],
-    v: &[u8],
-    guess: u8,
-    challenge: u8,
-    lent: &[u8],
-    commitments: &mut [u8],
-    reply: &mut [u8],
-) -> u8 {
-    unsafe {
-        c::bench_simulate(
-            system.as_ptr(),
-            system.len(),
-            v.as_ptr(),
-            v.len(),
-            guess,
-            challenge,
-            lent.as_ptr(),
-            lent.len(),
-            commitments.as_mut_ptr(),
-            commitments.len(),
-            reply.as_mut_ptr(),
-            reply.len(),
-        )
-    }
-}
-
 /// A whole record judged: the count of accepted rounds, or the refusal's number.
 pub fn judge(system: &[u8], record: &[u8]) -> Result<u8, u8> {
     let mut accepted = 0;
@@ -256,53 +111,21 @@ pub fn judge(system: &[u8], record: &[u8]) -> Result<u8, u8> {
     }
 }
 
-/// The secret that an audit of three passes finds, or the refusal's number.
-pub fn audit_three(system: &[u8], records: &[Vec<u8>; 3]) -> Result<[u8; 96], u8> {
-    let [a, b, c] = records;
-    let mut secret = [0; 96];
-    let refusal = unsafe {
-        c::bench_audit_three(
-            system.as_ptr(),
-            system.len(),
-            a.as_ptr(),
-            a.len(),
-            b.as_ptr(),
-            b.len(),
-            c.as_ptr(),
-            c.len(),
-            &mut secret,
-        )
-    };
-    if refusal == 0 {
-        Ok(secret)
-    } else {
-        Err(refusal)
-    }
+/// The secret that an audit of three passes finds, or the refusal's number; 0 for a clash.
+pub fn audit_three(system: &[u8], [a, b, c]: &[Vec<u8>; 3]) -> Result<[u8; 96], u8> {
+    secret(canvasfox::audit_three(system, [a, b, c]))
 }
 
 /// The same of five passes.
-pub fn audit_five(system: &[u8], records: &[Vec<u8>; 4]) -> Result<[u8; 96], u8> {
-    let [a, b, c, d] = records;
-    let mut secret = [0; 96];
-    let refusal = unsafe {
-        c::bench_audit_five(
-            system.as_ptr(),
-            system.len(),
-            a.as_ptr(),
-            a.len(),
-            b.as_ptr(),
-            b.len(),
-            c.as_ptr(),
-            c.len(),
-            d.as_ptr(),
-            d.len(),
-            &mut secret,
-        )
-    };
-    if refusal == 0 {
-        Ok(secret)
-    } else {
-        Err(refusal)
+pub fn audit_five(system: &[u8], [a, b, c, d]: &[Vec<u8>; 4]) -> Result<[u8; 96], u8> {
+    secret(canvasfox::audit_five(system, [a, b, c, d]))
+}
+
+fn secret(found: Result<Finding, canvasfox::AuditRefusal>) -> Result<[u8; 96], u8> {
+    match found {
+        Ok(Finding::Secret(s)) => Ok(s),
+        Ok(Finding::Clash { .. }) => Err(0),
+        Err(refused) => Err(refused.refusal.number()),
     }
 }
 

@@ -72,11 +72,11 @@ fn entries() -> Vec<(String, usize)> {
     let mut out = vec![0; tall];
     let mut other = vec![0; tall];
     let mut written = vec![0; session.record.len()];
-    let mut text = Box::new([0; 8192]);
+    let mut text = vec![0; 8192];
     let rows: Vec<(&str, Calls)> = vec![
         (
             "check of a system",
-            vec![Box::new(|| assert_eq!(engine::check(system), 0))],
+            vec![Box::new(|| assert_eq!(engine::system_check(system), 0))],
         ),
         (
             "evaluate (F)",
@@ -93,7 +93,7 @@ fn entries() -> Vec<(String, usize)> {
         (
             "digest (SHA-256)",
             vec![Box::new(|| {
-                assert_eq!(engine::digest(message, &mut [0; 32]), 0)
+                assert_eq!(engine::sha256(message, &mut [0; 32]), 0)
             })],
         ),
         (
@@ -102,7 +102,9 @@ fn entries() -> Vec<(String, usize)> {
         ),
         (
             "read",
-            vec![Box::new(|| assert_eq!(engine::read(&session.record), 0))],
+            vec![Box::new(|| {
+                assert_eq!(engine::record_read(&session.record, &mut [0; 30]), 0)
+            })],
         ),
         (
             "write",
@@ -121,7 +123,7 @@ fn entries() -> Vec<(String, usize)> {
         (
             "report",
             vec![Box::new(|| {
-                assert!(engine::report(reported, &mut text) > 0)
+                assert!(engine::report(reported, &mut text[..]) > 0)
             })],
         ),
         (

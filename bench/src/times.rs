@@ -147,12 +147,12 @@ fn polarising(effort: Effort, system: &[u8], x: &[u8], y: &[u8]) -> Vec<f64> {
 
 fn hashes(effort: Effort, table: &mut Table, message: &[u8]) {
     let [mut a, mut b] = [[0; 32]; 2];
-    assert_eq!(engine::digest(message, &mut a), 0);
+    assert_eq!(engine::sha256(message, &mut a), 0);
     assert_eq!(plain::sha256::digest(message, &mut b), Ok(()));
     assert!(a == b && a == reference::sha256::sha256(message));
     let mut sides: [Side; 2] = [
         Box::new(|| {
-            black_box(engine::digest(black_box(message), &mut a));
+            black_box(engine::sha256(black_box(message), &mut a));
         }),
         Box::new(|| {
             let _ = black_box(plain::sha256::digest(black_box(message), &mut b));

@@ -6,8 +6,6 @@ use Rattle.refusal.specs.Refusal.{unless, _orElse_, kept}
 use Rattle.system.specs.System.{hasSizes, systemRefusal}
 use Rattle.record.specs.declared.layout.Header.{Header}
 use Rattle.record.specs.Reader.{headerIn, recordRefusal}
-use Rattle.auditing.specs.declared.Finding.{Finding}
-use Rattle.auditing.specs.declared.Finding.the-variants.{Secret, Clash, Refused}
 use Rattle.session_state.specs.declared.Verdict.the-variants.{None}
 use Rattle.card.specs.declared.session.Card.{Card}
 use Rattle.card.specs.Card as C
@@ -22,12 +20,6 @@ unfoldable pub judgeRefusal : List ℕ → List ℕ → ℕ
 judgeRefusal system b =
     let h = headerIn b in
     systemRefusal system orElse recordRefusal b orElse unless (hasSizes system (h .q) (h .n) (h .m)) 7
-
--- the number of an audit's refusal, 0 for a finding
-unfoldable pub numberOf : Finding → ℕ
-numberOf Secret = 0
-numberOf (Clash k) = 0
-numberOf (Refused number whose round) = number
 
 -- ---- the card's session after each call of its one round
 

@@ -45,15 +45,6 @@ lines-step system b start text after place next r later challenge accepted w siz
       room = omega (arith, w .room, near, el);
     }
 
-pub count-start : (system b : List ℕ) (r : ℕ) → r ≡ 0 → 0 ≡ acceptedCount system b r
-unfolding acceptedCount
-count-start system b r none = rw none refl
-
-pub count-step : (system b : List ℕ) (count next r later : ℕ) (accepted : Bool) → count ≡ acceptedCount system b r → later ≡ r + 1 → accepted ≡ acceptedRound system b r →
-    next ≡ count + cond accepted 1 0 → next ≡ acceptedCount system b later
-unfolding acceptedCount
-count-step system b count next r later accepted ec el ea en = rw (el, add-one) (en ∙ ap₂ (λ (k : ℕ) (t : Bool). k + cond t 1 0) ec ea)
-
 -- the verdict stands behind the last round's line
 pub text-end : (system b start text after : List ℕ) (place next count rounds r : ℕ) → Written system b start text place r → length start ≡ 8192 → r ≤ 255 →
     r ≡ rounds → rounds ≡ headerIn b .rounds → count ≡ acceptedCount system b r → after ≡ placed text place (verdictLine count rounds) →

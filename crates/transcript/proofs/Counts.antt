@@ -6,7 +6,21 @@ use mathlib.Core.List.{List}
 use mathlib.Core.Logic.{⊎-elim}
 use native.Mathlib.Nat.{not-suc-le-zero, eq-or-lt-of-le, le-of-suc-le-suc, le-refl}
 use native.Mathlib.Omega.{arith}
+use native.Mathlib.Numerals.{add-one}
 use Rattle.transcript.specs.Transcript.{acceptedRound, acceptedCount}
+
+-- ---- a loop over the rounds that counts
+
+pub count-start : (system b : List ℕ) (r : ℕ) → r ≡ 0 → 0 ≡ acceptedCount system b r
+unfolding acceptedCount
+count-start system b r none = rw none refl
+
+pub count-step : (system b : List ℕ) (count next r later : ℕ) (accepted : Bool) → count ≡ acceptedCount system b r → later ≡ r + 1 → accepted ≡ acceptedRound system b r →
+    next ≡ count + cond accepted 1 0 → next ≡ acceptedCount system b later
+unfolding acceptedCount
+count-step system b count next r later accepted ec el ea en = rw (el, add-one) (en ∙ ap₂ (λ (k : ℕ) (t : Bool). k + cond t 1 0) ec ea)
+
+-- ---- what the count says
 
 pub count-most : (system b : List ℕ) (n : ℕ) → acceptedCount system b n ≤ n
 unfolding acceptedCount

@@ -5,7 +5,8 @@ use native.Mathlib.Omega.{arith}
 use lib.ListN.{length}
 use Rattle.record.specs.declared.layout.Header.{Header}
 use Rattle.transcript.specs.Transcript.{acceptedCount}
-use Rattle.reporting.proofs.Lines.{Written, lines-start, lines-step, count-start, count-step, text-end}
+use Rattle.transcript.proofs.Counts.{count-start, count-step}
+use Rattle.reporting.proofs.Lines.{Written, lines-start, lines-step, text-end}
 use borrow.Author.Needs.{needs}
 use Rattle.reporting.proofs.judged.Statement.{statement}
 use Rattle.reporting.proofs.judged.Tie as tie

@@ -7,8 +7,7 @@ use mathlib.Core.Logic.{⊎-elim}
 use native.Mathlib.Omega.{arith}
 use Rattle.record.specs.declared.layout.Header.{Header}
 use Rattle.transcript.specs.Transcript.{acceptedCount}
-use Rattle.transcript.proofs.Counts.{count-most}
-use Rattle.reporting.proofs.Lines.{count-start, count-step}
+use Rattle.transcript.proofs.Counts.{count-start, count-step, count-most}
 use borrow.Author.Needs.{needs}
 use Rattle.bench_entries.proofs.judging.accepted_rounds.Statement.{statement}
 use Rattle.bench_entries.proofs.judging.accepted_rounds.Tie as tie
