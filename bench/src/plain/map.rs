@@ -115,8 +115,18 @@ pub fn g<const Q: u32>(system: &[u8], x: &[u8], y: &[u8], out: &mut [u8]) {
 fn times_rows<const Q: u32>(system: &[u8], n: usize, monomials: &[u8; MOST], out: &mut [u8]) {
     let monomials = &monomials[..width(n)];
     for (value, row) in out.iter_mut().zip(system[3..].chunks_exact(width(n))) {
-        *value = (sum_of_products(row, monomials) % Q) as u8;
+        *value = if Q == 2 {
+            parity(row, monomials)
+        } else {
+            (sum_of_products(row, monomials) % Q) as u8
+        };
     }
+}
+
+/// Over two elements sums are differing bits, and products common ones.
+fn parity(row: &[u8], monomials: &[u8]) -> u8 {
+    let both = row.iter().zip(monomials);
+    both.fold(0, |bits, (a, x)| bits ^ (a & x)) & 1
 }
 
 /// A whole row is at most 4,752 × 250 × 250, which 32 bits hold. The counts are constants, so that a block is compiled into wide

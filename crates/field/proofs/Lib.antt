@@ -5,3 +5,4 @@ pub mod Fields
 pub mod Vectors
 pub mod Rows
 pub mod Sums
+pub mod Parity

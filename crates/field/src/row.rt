@@ -95,12 +95,53 @@ fn remainder<'a>(q: u8, a: &'a [u8], b: &'a [u8]) -> u8
     reduce_total(q, total as u32)
 }
 
+// The last bit of the sum of the products: of sums the differing bits, of products the common ones.
+fn bit_block<'a>(a: &'a [u8], b: &'a [u8]) -> u8
+    requires { ⌜ length (now a) ≤ length (now b) ⌝ }
+    ensures { λ r. ⌜ (r ≡ products (now (a .entry)) (now (b .entry)) (length (now (a .entry))) % 2) × (r < 2) ⌝ }
+{
+    let mut bits: u8 = 0;
+    let mut i = 0;
+    while i < a.len() {
+        bits = bits ^ (a[i] & b[i]);
+        i += 1;
+    }
+    bits % 2
+}
+
+// Where a block by bits that starts at `at` ends.
+fn block_end(at: usize, len: usize) -> usize
+    requires { ⌜ at < len ⌝ }
+    ensures { λ r. ⌜ (at < r) × (r ≤ len) ⌝ }
+{
+    if len - at <= 512 { len } else { at + 512 }
+}
+
+// The remainder by 2, which is all that the field of two elements keeps: blocks are summed by bits, sixteen pairs at a time.
+fn parity<'a>(a: &'a [u8], b: &'a [u8]) -> u8
+    requires { ⌜ (length (now a) ≤ length (now b)) × (length (now a) ≤ 65536) ⌝ }
+    ensures { λ r. ⌜ r ≡ products (now (a .entry)) (now (b .entry)) (length (now (a .entry))) % 2 ⌝ }
+{
+    let mut total: u64 = 0;
+    let mut at = 0;
+    while at < a.len() {
+        let end = block_end(at, a.len());
+        total += bit_block(&a[at..end], &b[at..end]) as u64;
+        at = end;
+    }
+    (total % 2) as u8
+}
+
 // The sum of the products of a and the front of b, place by place.
 pub fn dot<'a>(q: u8, a: &'a [u8], b: &'a [u8]) -> u8
     requires { ⌜ (length (now a) ≤ length (now b)) × (length (now a) ≤ 65536) ⌝ }
     ensures { λ r. ⌜ r ≡ sum (ops q) (length (now (a .entry))) (λ k. (ops q) .mul (now (a .entry) ! k) (now (b .entry) ! k)) ⌝ }
 {
-    remainder(q, a, b)
+    if q == 2 {
+        parity(a, b)
+    } else {
+        remainder(q, a, b)
+    }
 }
 
 // a·x + b·y.

@@ -1,6 +1,10 @@
--- The remainder of the sum of the products is the field's sum. Assumes nothing.
-use mathlib.Core.Path.{_∙_}
+-- The remainder of the sum of the products is the field's sum; by 2 it is the last bit. Assumes nothing.
+use Prim.Native.Nat.{ℕ, _%_}
+use mathlib.Core.Path.{_≡_, ap, _∙_}
+use lib.ListN.{length}
+use Rattle.field.specs.Row.{products}
 use Rattle.field.proofs.Rows.{products-sum}
+use Rattle.field.proofs.Parity.{modulus-two}
 use borrow.Author.Needs.{needs}
 use Rattle.field.proofs.row.dot.Statement.{statement}
 use Rattle.field.proofs.row.dot.Tie as tie
@@ -10,4 +14,7 @@ dot-spec =
     tie.close
     (tie.spec
     (λ c κs. search needs)
-    (λ c. c .remainder .ensures ∙ products-sum (c .before .before .before .args .q) _ _ _))
+    (λ c κs. search needs)
+    (λ c. let a = c .before .before .before .before .args in
+    c .parity .ensures ∙ ap (λ (m : ℕ). products (a .a .now) (a .b .now) (length (a .a .now)) % m) (modulus-two (a .q) (c .before .if1 .taken)) ∙ products-sum (a .q) _ _ _)
+    (λ c. c .remainder .ensures ∙ products-sum (c .before .before .before .before .args .q) _ _ _))
