@@ -17,7 +17,8 @@ use Rattle.report_lines.specs.ReportLines.{verdictStart, refusedWord, numbered,
 use Rattle.reporting.specs.Report.{systemPart, recordPart, reportRefusal, roundLines, judgedText, reportText}
 use Rattle.auditing.specs.Outcome.{Outcome, secret, clash, refused, clashed, answerOf}
 use Rattle.auditing.specs.Audit.{clashAt, secretAt, findingAt, searchOf, auditOf}
-use Rattle.capi.specs.Layouts.{findingFront, findingBytes, auditNumber}
+use Rattle.finding_layout.specs.FindingLayout.{front, findingBytes}
+use Rattle.capi.specs.Layouts.{auditNumber}
 
 -- ---- an audit that answers 0 has a finding
 
@@ -31,13 +32,13 @@ either : (t : Bool) (x y : Outcome) → Numbered x → Numbered y → Numbered (
 either true x y of-x of-y = of-x
 either false x y of-x of-y = of-y
 
-unless-refused : (front : ℕ) (x : Outcome) → Numbered x → Numbered (cond (eqb front 0) x (refused front 0 0))
+unless-refused : (early : ℕ) (x : Outcome) → Numbered x → Numbered (cond (eqb early 0) x (refused early 0 0))
 unfolding Numbered
-unless-refused front x of-x = go (eqb front 0) refl
+unless-refused early x of-x = go (eqb early 0) refl
   where
-    go : (t : Bool) → eqb front 0 ≡ t → Numbered (cond t x (refused front 0 0))
+    go : (t : Bool) → eqb early 0 ≡ t → Numbered (cond t x (refused early 0 0))
     go true e = of-x
-    go false e = λ none. absurd (true≢false (sym (eq-eqb front 0 none) ∙ e))
+    go false e = λ none. absurd (true≢false (sym (eq-eqb early 0 none) ∙ e))
 
 -- 8 and 9
 above : (number whose round : ℕ) → 0 < number → Numbered (refused number whose round)
@@ -68,7 +69,7 @@ audit-numbered scheme system a b c d =
     (either (eqb (rejectionOf scheme system a b c d .whose) 0) _ _ (search-numbered scheme system a b c d) (above 8 _ _ (omega arith)))
 
 told : (o : Outcome) → Numbered o → auditNumber (answerOf o .finding) ≡ 0 → (findingBytes (answerOf o) ! 0 ≡ 1) ⊎ (findingBytes (answerOf o) ! 0 ≡ 2)
-unfolding Numbered auditNumber answerOf clashed findingBytes findingFront
+unfolding Numbered auditNumber answerOf clashed findingBytes front
 told (secret s) numbered none = inl refl
 told (clash k x y) numbered none = inr refl
 told (refused number whose round) numbered none = absurd (numbered (omega (arith, none)))

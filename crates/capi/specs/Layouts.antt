@@ -1,15 +1,13 @@
--- What include/canvasfox.h says of numbers and bytes that no entry has: the layouts of two outputs, and an audit's answer.
+-- What include/canvasfox.h says of numbers and bytes that no entry has: the layout of a record's fields, and an audit's answer.
 use Prim.Native.Nat.{ℕ, _+_, _*_}
 use mathlib.Core.List.{List, [], _∷_, _++_}
 use lib.Dec.{eqb}
 use Rattle.refusal.specs.Refusal.{unless, _orElse_}
-use Rattle.commitment.specs.declared.Text.{Text}
 use Rattle.record.specs.declared.layout.Layout.{Layout}
-use Rattle.record.specs.Record.{word, entry}
+use Rattle.record.specs.Record.{entry}
 use Rattle.record.specs.Reader.{recordRefusal}
 use Rattle.auditing.specs.declared.Finding.{Finding}
 use Rattle.auditing.specs.declared.Finding.the-variants.{Secret, Clash, Refused}
-use Rattle.auditing.specs.declared.Audited.{Audited}
 
 -- ---- a record's fields
 
@@ -24,22 +22,7 @@ fieldsBytes l =
 unfoldable pub fieldsRefusal : List ℕ → ℕ → ℕ
 fieldsRefusal b room = unless (eqb room 30) 2 orElse recordRefusal b
 
--- ---- an audit's finding
-
--- canvasfox.h: "Byte 0: 1 for a secret, 2 for a clash. Byte 1: a clash's k, else 0. Bytes 2 and 3: 0." A refusal is laid out as reference/README.md says,
--- "Audits", and no function writes it
-unfoldable pub findingFront : Finding → List ℕ
-findingFront Secret = 1 ∷ 0 ∷ 0 ∷ 0 ∷ []
-findingFront (Clash k) = 2 ∷ k ∷ 0 ∷ 0 ∷ []
-findingFront (Refused number whose round) = 0 ∷ number ∷ whose ∷ round ∷ []
-
--- canvasfox.h: "A string: its length, four bytes, the lowest first, then 322 bytes, the string and zeros."
-unfoldable pub textBytes : Text → List ℕ
-textBytes t = word (t .len) ++ t .bytes
-
--- canvasfox.h: "Bytes 4 to 99: the secret, and zeros. Bytes 100 to 425: the first string. Bytes 426 to 751: the second string."
-unfoldable pub findingBytes : Audited → List ℕ
-findingBytes r = findingFront (r .finding) ++ r .secret ++ textBytes (r .first) ++ textBytes (r .second)
+-- ---- an audit's answer
 
 -- canvasfox.h: "0 for a finding, else the refusal's number + 256 * the record + 65536 * the round"
 unfoldable pub auditNumber : Finding → ℕ

@@ -27,7 +27,8 @@ ghost use Rattle.record.specs.Reader.{headerIn};
 ghost use Rattle.reporting.specs.Report.{reportLength, reportOut};
 ghost use Rattle.auditing.specs.Outcome.{answerOf};
 ghost use Rattle.auditing.specs.Audit.{auditThree, auditFive};
-ghost use Rattle.capi.specs.Layouts.{fieldsBytes, fieldsRefusal, findingBytes, auditRefusal};
+ghost use Rattle.finding_layout.specs.FindingLayout.{findingBytes};
+ghost use Rattle.capi.specs.Layouts.{fieldsBytes, fieldsRefusal, auditRefusal};
 
 // The digest of a message.
 #[no_mangle]

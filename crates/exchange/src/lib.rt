@@ -3,14 +3,10 @@
 //
 // Nothing here refuses: what is beyond the end of a message reads as zero. Whoever takes a message from outside refuses one
 // of another length first.
-mod card;
 mod judging;
 mod read;
 mod write;
 
-pub use card::five_commitments;
-pub use card::three_commitments;
-pub use card::three_reply;
 pub use judging::judge;
 pub use read::Lent;
 pub use read::read_commitments;

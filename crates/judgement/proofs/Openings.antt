@@ -1,4 +1,4 @@
--- What the test of an opening says of the string that is held, and two tests in a row. Assumes nothing.
+-- What the test of an opening says of the string that is held. Assumes nothing.
 use Prim.Native.Nat.{ℕ, _≤_}
 use mathlib.Core.Path.{_≡_, refl, sym, ap₂, _∙_}
 use mathlib.Core.Bool.{Bool, true, false, _&&_}
@@ -12,9 +12,3 @@ use Rattle.commitment.proofs.HeldStrings.{content}
 
 pub judged : (t : Text) (l c k : List ℕ) (r : Bool) → t ≡ text l → t .len ≤ 322 → c ≡ k → r ≡ same (sha256 (take (t .len) (t .bytes))) c → r ≡ same (sha256 l) k
 judged t l c k r holds room number tested = tested ∙ ap₂ (λ (s d : List ℕ). same (sha256 s) d) (content t l holds room) number
-
-pub both-true : (a b x y : Bool) → a ≡ x → b ≡ y → a ≡ true → b ≡ (x && y)
-both-true a b x y e f h = f ∙ rw (sym e ∙ h) refl
-
-pub first-false : (a x y : Bool) → a ≡ x → a ≡ false → false ≡ (x && y)
-first-false a x y e h = rw (sym e ∙ h) refl

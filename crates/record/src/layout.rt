@@ -3,10 +3,11 @@ use scheme::commitments_length;
 use scheme::exchange_length;
 use scheme::of_rounds;
 use slices::put;
+use slices::put_both;
 ghost use mathlib.Core.Path.{_≡_};
 ghost use Prim.Native.Nat.{_+_, _≤_};
 ghost use lib.ListN.{length};
-ghost use Rattle.record.specs.Record.{layoutOf, recordLength, entry as entryOf, table as tableOf};
+ghost use Rattle.record.specs.Record.{layoutOf, recordLength, word as wordOf, entry as entryOf, table as tableOf};
 
 // The values that stand behind the edition.
 pub struct Header {
@@ -64,22 +65,27 @@ pub fn record_length(h: Header) -> usize
     last.offset + last.length
 }
 
-// An entry of the table: offset and length, low byte first.
+// A number as four bytes, the lowest first.
+pub fn word(k: usize) -> [u8; 4]
+    ensures { λ r. ⌜ (r ≡ wordOf k) × (length r ≡ 4) ⌝ }
+{
+    [
+        (k % 256) as u8,
+        (k / 256 % 256) as u8,
+        (k / 65536 % 256) as u8,
+        (k / 16777216 % 256) as u8,
+    ]
+}
+
+// An entry of the table: offset and length.
 fn entry(body: Body) -> [u8; 8]
     ensures { λ r. ⌜ (r ≡ entryOf body) × (length r ≡ 8) ⌝ }
 {
-    let offset = body.offset;
-    let length = body.length;
-    [
-        (offset % 256) as u8,
-        (offset / 256 % 256) as u8,
-        (offset / 65536 % 256) as u8,
-        (offset / 16777216 % 256) as u8,
-        (length % 256) as u8,
-        (length / 256 % 256) as u8,
-        (length / 65536 % 256) as u8,
-        (length / 16777216 % 256) as u8,
-    ]
+    let offset = word(body.offset);
+    let length = word(body.length);
+    let mut out = [0; 8];
+    put_both(&mut out, &offset, &length);
+    out
 }
 
 // The table of contents.

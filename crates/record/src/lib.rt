@@ -16,6 +16,7 @@ pub use layout::Layout;
 pub use layout::laid_out;
 pub use layout::record_length;
 pub use layout::table;
+pub use layout::word;
 pub use reader::Reading;
 pub use reader::body_of;
 pub use reader::header_of;

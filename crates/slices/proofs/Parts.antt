@@ -75,6 +75,14 @@ placed-whole l s r long er =
     let length-r : length r ≡ length s = ap length er ∙ length-placed l s 0 room ∙ sym long in
     placed-all s r (length s) (placed-next [] s l r 0 (length s) refl room (omega arith) er) length-r
 
+-- two pieces, the second behind the first, as long as all
+pub placed-both : (a b l k r : List ℕ) (place : ℕ) → length a ≡ place → length l ≡ place + length b → k ≡ placed l 0 a → r ≡ placed k place b → r ≡ a ++ b
+placed-both a b l k r place first long ek er =
+    let length-k : length k ≡ length l = ap length ek ∙ length-placed l a 0 (omega arith) in
+    let length-r : length r ≡ length k = ap length er ∙ length-placed k b place (omega arith) in
+    placed-all (a ++ b) r (place + length b)
+    (placed-next a b k r place (place + length b) (placed-next [] a l k 0 place refl (omega arith) (omega arith) ek) (omega arith) refl er) (omega arith)
+
 -- what stands behind the piece stays
 placed-rest : (l r s : List ℕ) (place next : ℕ) → place + length s ≤ length l → next ≡ place + length s → r ≡ placed l place s → drop next r ≡ drop next l
 unfolding placed

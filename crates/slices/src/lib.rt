@@ -1,6 +1,7 @@
 // Reading a slice of bytes by place, with no check left to the caller.
 ghost use mathlib.Core.Path.{_≡_};
 ghost use Prim.Native.Nat.{_+_, _≤_};
+ghost use mathlib.Core.List.{_++_};
 ghost use lib.ListN.{length, take, drop};
 ghost use Rattle.slices.specs.Slices.{_!_, tabulate, same, placed};
 
@@ -86,4 +87,13 @@ pub fn put(out: &mut [u8], at: usize, s: &[u8])
 {
     let end = at + s.len();
     bytes::copy(s, &mut out[at..end]);
+}
+
+// Puts a and then b in the place of all bytes.
+pub fn put_both<'a>(out: &mut [u8], a: &'a [u8], b: &'a [u8])
+    requires { ⌜ length (now out) ≡ length (now a) + length (now b) ⌝ }
+    ensures { λ _. ⌜ now (out .exit) ≡ now (a .entry) ++ now (b .entry) ⌝ }
+{
+    put(out, 0, a);
+    put(out, a.len(), b);
 }

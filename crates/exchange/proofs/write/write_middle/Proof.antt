@@ -1,10 +1,7 @@
--- Each piece behind the last, to the end. Assumes nothing.
-use Prim.Native.Nat.{_+_}
-use mathlib.Core.Path.{_≡_, refl}
-use mathlib.Core.List.{_++_, []}
+-- t1, then e1. Assumes nothing.
 use native.Mathlib.Omega.{arith}
 use lib.ListN.{take}
-use Rattle.slices.proofs.Parts.{placed-next, placed-all}
+use Rattle.slices.proofs.Parts.{placed-both}
 use Rattle.exchange.specs.Messages.{middleBytes}
 use borrow.Author.Needs.{needs}
 use Rattle.exchange.proofs.write.write_middle.Statement.{statement}
@@ -19,13 +16,8 @@ write-middle-spec =
     (λ c κs. search needs)
     (λ c. search needs)
     (λ c.
-    let args = c .before .before .before .before .before .before .before .before .before .before .before .args in
-    let pre = c .before .before .before .before .before .before .before .before .before .before .before .pre in
+    let start = c .before .before .before .before .before .before .before .before .before .before .before in
     let one = c .before .before .before .before .before .before .put-vector in
     let last = c .before .before .put-vector2 in
-    let one-long = one .ensures .1 in
-    let one-kept = one .kept .0 in
     let last-long = last .ensures .1 in
-    let last-kept = last .kept .0 in
-    let first = placed-next [] (take (args .n) (args .sent .t1)) (args .out .now) (one .last .0) 0 (args .n) refl (omega arith) (omega arith) (one .ensures .0) in
-    placed-all _ (last .last .0) (args .n + args .m) (placed-next _ (take (args .m) (args .sent .e1)) (one .last .0) (last .last .0) (args .n) (args .n + args .m) first (omega arith) (omega arith) (last .ensures .0)) (omega arith)))
+    placed-both (take (start .args .n) (start .args .sent .t1)) (take (start .args .m) (start .args .sent .e1)) (start .args .out .now) (one .last .0) (last .last .0) (start .args .n) (one .ensures .1) (omega (arith, start .pre)) (one .ensures .0) (last .ensures .0)))

@@ -1,10 +1,6 @@
--- Each piece behind the last, to the end. Assumes nothing.
-use Prim.Native.Nat.{_+_}
-use mathlib.Core.Path.{_≡_, refl}
-use mathlib.Core.List.{_++_, []}
+-- c0, then c1. Assumes nothing.
 use native.Mathlib.Omega.{arith}
-use lib.ListN.{take}
-use Rattle.slices.proofs.Parts.{placed-next, placed-all}
+use Rattle.slices.proofs.Parts.{placed-both}
 use Rattle.exchange.specs.Messages.{fiveCommitments}
 use borrow.Author.Needs.{needs}
 use Rattle.exchange.proofs.write.write_two_commitments.Statement.{statement}
@@ -19,13 +15,8 @@ write-two-commitments-spec =
     (λ c κs. search needs)
     (λ c. search needs)
     (λ c.
-    let args = c .before .before .before .before .before .before .before .before .before .before .before .args in
-    let pre = c .before .before .before .before .before .before .before .before .before .before .before .pre in
+    let start = c .before .before .before .before .before .before .before .before .before .before .before in
     let one = c .before .before .before .before .before .before .put-bytes in
     let last = c .before .before .put-bytes2 in
-    let one-long = one .ensures .1 in
-    let one-kept = one .kept .0 in
     let last-long = last .ensures .1 in
-    let last-kept = last .kept .0 in
-    let first = placed-next [] (args .c .c0) (args .out .now) (one .last .0) 0 32 refl (omega arith) (omega arith) (one .ensures .0) in
-    placed-all _ (last .last .0) 64 (placed-next _ (args .c .c1) (one .last .0) (last .last .0) 32 64 first (omega arith) (omega arith) (last .ensures .0)) (omega arith)))
+    placed-both (start .args .c .c0) (start .args .c .c1) (start .args .out .now) (one .last .0) (last .last .0) 32 (one .ensures .1) (omega (arith, start .pre)) (one .ensures .0) (last .ensures .0)))

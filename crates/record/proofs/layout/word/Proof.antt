@@ -1,9 +1,9 @@
 -- By computation. Assumes nothing.
 use mathlib.Core.Path.{refl}
 use Rattle.record.specs.Record.{word}
 use borrow.Author.Needs.{needs}
-use Rattle.capi.proofs.layouts.word.Statement.{statement}
-use Rattle.capi.proofs.layouts.word.Tie as tie
+use Rattle.record.proofs.layout.word.Statement.{statement}
+use Rattle.record.proofs.layout.word.Tie as tie
 
 pub word-spec : {M : Type 1} → statement M
 unfolding word

@@ -1,0 +1,2 @@
+-- The layout of a finding.
+pub mod FindingLayout

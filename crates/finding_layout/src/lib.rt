@@ -1,0 +1,49 @@
+// What an audit answers as 752 bytes, for the C interface and for stored cases.
+use auditing::Audited;
+use auditing::Finding;
+use commitment::Text;
+use record::word;
+use slices::put;
+use slices::put_both;
+ghost use mathlib.Core.Path.{_≡_};
+ghost use lib.ListN.{length};
+ghost use Rattle.finding_layout.specs.FindingLayout.{front as frontOf, textBytes, findingBytes};
+
+// Which finding it is, and what it says.
+fn front(f: Finding) -> [u8; 4]
+    ensures { λ r. ⌜ (r ≡ frontOf f) × (length r ≡ 4) ⌝ }
+{
+    match f {
+        Finding::Secret => [1, 0, 0, 0],
+        Finding::Clash(k) => [2, k, 0, 0],
+        Finding::Refused(number, whose, round) => [0, number, whose, round],
+    }
+}
+
+// A string, its length before its bytes.
+fn text_bytes(t: Text) -> [u8; 326]
+    ensures { λ r. ⌜ (r ≡ textBytes t) × (length r ≡ 326) ⌝ }
+{
+    let len = word(t.len);
+    let bytes = t.bytes;
+    let mut out = [0; 326];
+    put_both(&mut out, &len, &bytes);
+    out
+}
+
+// What it is, the secret, then the two strings.
+pub fn finding_bytes(audited: Audited) -> [u8; 752]
+    ensures { λ r. ⌜ (r ≡ findingBytes audited) × (length r ≡ 752) ⌝ }
+{
+    let finding = audited.finding;
+    let secret = audited.secret;
+    let told = front(finding);
+    let first = text_bytes(audited.first);
+    let second = text_bytes(audited.second);
+    let mut out = [0; 752];
+    put(&mut out, 0, &told);
+    put(&mut out, 4, &secret);
+    put(&mut out, 100, &first);
+    put(&mut out, 426, &second);
+    out
+}
