@@ -19,4 +19,4 @@ textBytes t = word (t .len) ++ t .bytes
 
 -- canvasfox.h: "Bytes 4 to 99: the secret, and zeros. Bytes 100 to 425: the first string. Bytes 426 to 751: the second string."
 unfoldable pub findingBytes : Audited → List ℕ
-findingBytes r = front (r .finding) ++ r .secret ++ textBytes (r .first) ++ textBytes (r .second)
+findingBytes r = (front (r .finding) ++ r .secret) ++ (textBytes (r .first) ++ textBytes (r .second))

@@ -3,7 +3,6 @@ use auditing::Audited;
 use auditing::Finding;
 use commitment::Text;
 use record::word;
-use slices::put;
 use slices::put_both;
 ghost use mathlib.Core.Path.{_≡_};
 ghost use lib.ListN.{length};
@@ -40,10 +39,11 @@ pub fn finding_bytes(audited: Audited) -> [u8; 752]
     let told = front(finding);
     let first = text_bytes(audited.first);
     let second = text_bytes(audited.second);
+    let mut start = [0; 100];
+    let mut strings = [0; 652];
     let mut out = [0; 752];
-    put(&mut out, 0, &told);
-    put(&mut out, 4, &secret);
-    put(&mut out, 100, &first);
-    put(&mut out, 426, &second);
+    put_both(&mut start, &told, &secret);
+    put_both(&mut strings, &first, &second);
+    put_both(&mut out, &start, &strings);
     out
 }

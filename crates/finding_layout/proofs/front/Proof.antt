@@ -1,13 +1,13 @@
 -- Each arm knows its variant. Assumes nothing.
 use mathlib.Core.Path.{refl}
-use Rattle.capi.specs.Layouts.{findingFront}
+use Rattle.finding_layout.specs.FindingLayout.{front}
 use borrow.Author.Needs.{needs}
-use Rattle.capi.proofs.layouts.finding_front.Statement.{statement}
-use Rattle.capi.proofs.layouts.finding_front.Tie as tie
+use Rattle.finding_layout.proofs.front.Statement.{statement}
+use Rattle.finding_layout.proofs.front.Tie as tie
 
-pub finding-front-spec : {M : Type 1} → statement M
-unfolding findingFront
-finding-front-spec =
+pub front-spec : {M : Type 1} → statement M
+unfolding front
+front-spec =
     tie.close
     (tie.spec
     (λ c. search needs)
