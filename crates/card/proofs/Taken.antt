@@ -10,12 +10,12 @@ use Rattle.slices.specs.Slices.{same}
 use Rattle.slices.proofs.Sameness.{same-true, same-by}
 use Rattle.refusal.proofs.Refusals.{first-zero, later-zero, test-holds, equal-holds, both-zero, unless-holds}
 use Rattle.field.specs.Vector.{held, allBelow}
-use Rattle.system.specs.System.{qOf, nOf, mOf, areSizes, hasSizes, systemRefusal, F}
+use Rattle.system.specs.System.{qOf, nOf, mOf, areSizes, hasSizes, systemRefusal, lentRefusal, F}
 use Rattle.scheme.specs.Scheme.{isScheme, isRounds, challenges, commitmentsLength, replyLength}
 use Rattle.session_state.specs.State.{stateRefusal}
 use Rattle.session_state.proofs.States.{state-due, due-state}
 use Rattle.card.specs.declared.session.Card.{Card}
-use Rattle.card.specs.Card.{phaseNumber, openForm, openRefusal, lentRefusal, commitRefusal, alphaRefusal, replyRefusal}
+use Rattle.card.specs.Card.{phaseNumber, openForm, openRefusal, commitRefusal, alphaRefusal, replyRefusal}
 
 -- ---- open
 

@@ -8,7 +8,7 @@ use Rattle.slices.specs.Slices.{_!_, same, zeros}
 use Rattle.refusal.specs.Refusal.{unless, _orElse_}
 use Rattle.field.specs.Ops.{ops}
 use Rattle.field.specs.Vector.{held, subV, allBelow}
-use Rattle.system.specs.System.{qOf, nOf, mOf, areSizes, hasSizes, systemRefusal, F}
+use Rattle.system.specs.System.{qOf, nOf, mOf, areSizes, systemRefusal, lentRefusal, F}
 use Rattle.scheme.specs.Scheme.{isScheme, isRounds, challenges, commitmentsLength, vectorsLength, replyLength}
 use Rattle.protocol.specs.Protocols as P
 use Rattle.protocol.specs.Protocols.{t1By, e1By}
@@ -116,10 +116,6 @@ openedCard b scheme rounds s =
       rho2 = zeros 32;
     }
 
--- "then the system (2 if under 3 bytes, then 1, 2, 3), then 7 against a session"
-unfoldable pub lentRefusal : Card → List ℕ → ℕ
-lentRefusal card b = systemRefusal b orElse unless (hasSizes b (card .q) (card .n) (card .m)) 7
-
 -- ---- commit(system, lent, out)
 
 -- "11, 10; then the system, then 7 against a session; then arguments left to right, all 1, all 2, all 3"
@@ -127,7 +123,7 @@ unfoldable pub commitRefusal : Card → List ℕ → List ℕ → ℕ → ℕ
 commitRefusal card b lent out =
     let vectors = card .n + card .n + card .m in
     stateRefusal (phaseNumber (card .phase)) 1 orElse
-    lentRefusal card b orElse
+    lentRefusal b (card .q) (card .n) (card .m) orElse
     unless (eqb (length lent) (vectors + commitmentsLength (card .scheme))) 2 orElse
     unless (eqb out (commitmentsLength (card .scheme))) 2 orElse
     unless (allBelow (card .q) (take vectors lent)) 3
@@ -148,7 +144,7 @@ sentCommitments card b lent =
 unfoldable pub alphaRefusal : Card → List ℕ → ℕ → ℕ → ℕ
 alphaRefusal card b α out =
     stateRefusal (phaseNumber (card .phase)) 2 orElse
-    lentRefusal card b orElse
+    lentRefusal b (card .q) (card .n) (card .m) orElse
     unless (eqb out (card .n + card .m)) 2 orElse
     unless (ltb α (card .q)) 3
 

@@ -32,8 +32,7 @@ use session_state::state_refusal;
 use slices::byte_at;
 use slices::part;
 use system::are_sizes;
-use system::check;
-use system::has_sizes;
+use system::lent_refusal;
 ghost use mathlib.Core.Path.{_≡_};
 ghost use mathlib.Core.Bool.{true};
 ghost use lib.ListN.{length};
@@ -45,17 +44,7 @@ ghost use Rattle.round.specs.Pieces.{vectorsOf};
 ghost use Rattle.exchange.specs.Messages.{lentIn, threeCommitments, fiveCommitments};
 ghost use Rattle.exchange.specs.Card.{threeVectors, threeCommitted, fiveCommitted};
 ghost use Rattle.card.specs.declared.session.CardPhase.the-variants.{AnswerAlpha, Reply};
-ghost use Rattle.card.specs.Card.{cardWith, lentRefusal, commitRefusal, committedCard, sentCommitments, alphaRefusal, answeredCard, sentMiddle, replyRefusal, repliedCard, heldVectors, sentReply};
-
-// The refusal of a system that is lent to a session.
-fn lent_refusal(card: Card, system: &[u8]) -> u8
-    ensures { λ r. ⌜ r ≡ lentRefusal card (now (system .entry)) ⌝ }
-{
-    first(
-        check(system),
-        unless(has_sizes(system, card.q, card.n, card.m), 7),
-    )
-}
+ghost use Rattle.card.specs.Card.{cardWith, commitRefusal, committedCard, sentCommitments, alphaRefusal, answeredCard, sentMiddle, replyRefusal, repliedCard, heldVectors, sentReply};
 
 // ---- commit
 
@@ -66,7 +55,7 @@ fn commit_refusal<'a>(card: Card, system: &'a [u8], lent: &'a [u8], out_len: usi
     let vectors = card.n as usize + card.n as usize + card.m as usize;
     let each = commitments_length(card.scheme);
     let state = state_refusal(phase_number(phase), 1);
-    let front = lent_refusal(card, system);
+    let front = lent_refusal(system, card.q, card.n, card.m);
     let lengths = first(
         unless(lent.len() == vectors + each, 2),
         unless(out_len == each, 2),
@@ -145,7 +134,7 @@ fn alpha_refusal(card: Card, system: &[u8], alpha: u8, out_len: usize) -> u8
 {
     let phase = card.phase;
     let state = state_refusal(phase_number(phase), 2);
-    let front = lent_refusal(card, system);
+    let front = lent_refusal(system, card.q, card.n, card.m);
     let back = first(
         unless(out_len == card.n as usize + card.m as usize, 2),
         unless(alpha < card.q, 3),

@@ -4,7 +4,7 @@ use mathlib.Core.Path.{_≡_}
 use mathlib.Core.List.{List}
 use lib.Dec.{eqb}
 use Rattle.refusal.proofs.Refusals.{unless-most, orElse-most}
-use Rattle.system.proofs.SystemLayout.{system-most}
+use Rattle.system.proofs.SystemLayout.{lent-most}
 use Rattle.session_state.proofs.States.{eleven}
 use Rattle.carrier.specs.declared.session.Carrier.{Carrier}
 use Rattle.carrier.specs.Carrier.{phaseNumber, commitmentsRefusal, alphaRefusal, middleRefusal, challengeRefusal, replyRefusal}
@@ -29,5 +29,4 @@ pub reply-eleven : (c : Carrier) (b reply : List ℕ) → eqb (replyRefusal c b 
 unfolding replyRefusal
 reply-eleven c b reply =
     eleven _ 5 _
-    (orElse-most _ _ 9 (system-most b 9 tt)
-    (orElse-most _ _ 9 (unless-most _ 7 9 tt) (orElse-most _ _ 9 (unless-most _ 2 9 tt) (unless-most _ 3 9 tt))))
+    (orElse-most _ _ 9 (lent-most b _ _ _) (orElse-most _ _ 9 (unless-most _ 2 9 tt) (unless-most _ 3 9 tt)))

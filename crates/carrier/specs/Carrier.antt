@@ -7,7 +7,7 @@ use lib.ListN.{length, take}
 use Rattle.slices.specs.Slices.{_!_, tabulate, zeros}
 use Rattle.refusal.specs.Refusal.{unless, _orElse_}
 use Rattle.field.specs.Vector.{held, allBelow}
-use Rattle.system.specs.System.{qOf, nOf, mOf, hasSizes, systemRefusal}
+use Rattle.system.specs.System.{qOf, nOf, mOf, systemRefusal, lentRefusal}
 use Rattle.scheme.specs.Scheme.{isScheme, isRounds, challenges, commitmentsLength, vectorsLength, replyLength}
 use Rattle.exchange.specs.Messages.{accepts}
 use Rattle.session_state.specs.declared.Verdict.{Verdict}
@@ -130,8 +130,7 @@ withChallenge c challenge = carrierWith c TakeReply (c .accepted) (c .commitment
 unfoldable pub replyRefusal : Carrier → List ℕ → List ℕ → ℕ
 replyRefusal c b reply =
     stateRefusal (phaseNumber (c .phase)) 5 orElse
-    systemRefusal b orElse
-    unless (hasSizes b (c .q) (c .n) (c .m)) 7 orElse
+    lentRefusal b (c .q) (c .n) (c .m) orElse
     unless (eqb (length reply) (replyLength (c .scheme) (c .n) (c .m))) 2 orElse
     unless (allBelow (c .q) (take (vectorsLength (c .scheme) (c .n) (c .m)) reply)) 3
 

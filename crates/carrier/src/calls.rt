@@ -21,8 +21,7 @@ use session_state::Verdict;
 use session_state::next_count;
 use session_state::state_refusal;
 use slices::part;
-use system::check;
-use system::has_sizes;
+use system::lent_refusal;
 ghost use mathlib.Core.Path.{_≡_};
 ghost use mathlib.Core.Bool.{false};
 ghost use Rattle.refusal.specs.Refusal.{kept};
@@ -109,7 +108,7 @@ fn reply_refusal<'a>(c: Carrier, system: &'a [u8], reply: &'a [u8]) -> u8
     let phase = c.phase;
     let vectors = vectors_length(c.scheme, c.n, c.m);
     let state = state_refusal(phase_number(phase), 5);
-    let front = first(check(system), unless(has_sizes(system, c.q, c.n, c.m), 7));
+    let front = lent_refusal(system, c.q, c.n, c.m);
     let form = first(
         unless(reply.len() == reply_length(c.scheme, c.n, c.m), 2),
         unless(all_below(c.q, part(reply, 0, vectors)), 3),

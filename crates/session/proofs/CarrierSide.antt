@@ -15,7 +15,7 @@ use Rattle.slices.specs.Slices.{_!_, tabulate, zeros}
 use Rattle.slices.proofs.Tabulate.{tabulate-at}
 use Rattle.refusal.proofs.Refusals.{first-zero, later-zero, test-holds, both-zero, unless-holds}
 use Rattle.field.specs.Vector.{vector, held, allBelow}
-use Rattle.system.specs.System.{qOf, nOf, mOf, systemRefusal, F}
+use Rattle.system.specs.System.{qOf, nOf, mOf, systemRefusal, lentRefusal, F}
 use Rattle.system.proofs.SystemLayout.{at-all-below, sizes-has}
 use Rattle.scheme.specs.Scheme.{isScheme, challenges, commitmentsLength, vectorsLength, replyLength}
 use Rattle.record.specs.Record.{Elements}
@@ -298,11 +298,10 @@ module _ (o : Opening) where
   pub reply-goes : (w : World) (reply : List ℕ) → systemRefusal (o .system) ≡ 0 → Link o w → phaseNumber (w .carrier .phase) ≡ 5 →
       length reply ≡ replyLength (o .scheme) (nOf (o .system)) (mOf (o .system)) →
       Elements (qOf (o .system)) (take (vectorsLength (o .scheme) (nOf (o .system)) (mOf (o .system))) reply) → replyRefusal (w .carrier) (o .system) reply ≡ 0
-  unfolding replyRefusal Known phaseNumber St.carrierAt carrierWith openedCarrier
+  unfolding replyRefusal lentRefusal Known phaseNumber St.carrierAt carrierWith openedCarrier
   reply-goes w reply good l phase long elements =
       let f : ReplyDue (w .given) (w .asked) (w .carrier) (w .carrierRound) = known-at _ _ _ _ (l .carrier-state) 5 phase in
       rw (f .is)
       (both-zero _ _ (due-state 5 5 refl (λ e. absurd (omega arith)))
-      (both-zero _ _ good
-      (both-zero _ _ (unless-holds _ 7 (sizes-has (o .system) _ _ _ refl refl refl))
-      (both-zero _ _ (unless-holds _ 2 (eq-eqb (length reply) (replyLength (o .scheme) (nOf (o .system)) (mOf (o .system))) long)) (unless-holds _ 3 (at-all-below _ _ elements))))))
+      (both-zero _ _ (both-zero _ _ good (unless-holds _ 7 (sizes-has (o .system) _ _ _ refl refl refl)))
+      (both-zero _ _ (unless-holds _ 2 (eq-eqb (length reply) (replyLength (o .scheme) (nOf (o .system)) (mOf (o .system))) long)) (unless-holds _ 3 (at-all-below _ _ elements)))))

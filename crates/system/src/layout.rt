@@ -1,12 +1,14 @@
 // The layout of a system's bytes and what is refused of them.
 use field::all_below;
 use field::is_field;
+use refusal::first;
+use refusal::unless;
 use slices::byte_at;
 ghost use mathlib.Core.Path.{_≡_};
 ghost use Prim.Native.Nat.{_+_, _≤_};
 ghost use lib.ListN.{length, take, drop};
 ghost use Rattle.field.specs.Vector.{allBelow};
-ghost use Rattle.system.specs.System.{qOf, width as widthOf, systemLength, isSize, areSizes, hasSizes, systemRefusal};
+ghost use Rattle.system.specs.System.{qOf, width as widthOf, systemLength, isSize, areSizes, hasSizes, systemRefusal, lentRefusal};
 
 // The bytes of one polynomial in n unknowns.
 pub fn width(n: u8) -> usize
@@ -80,4 +82,11 @@ pub fn has_sizes(system: &[u8], q: u8, n: u8, m: u8) -> bool
     } else {
         false
     }
+}
+
+// Refuses a system that is lent to a session of this q, n and m.
+pub fn lent_refusal(system: &[u8], q: u8, n: u8, m: u8) -> u8
+    ensures { λ r. ⌜ r ≡ lentRefusal (now (system .entry)) q n m ⌝ }
+{
+    first(check(system), unless(has_sizes(system, q, n, m), 7))
 }

@@ -1,5 +1,4 @@
 -- The callees' answers, put together. Assumes nothing.
-use Rattle.refusal.proofs.Refusals.{orElse-assoc}
 use Rattle.card.specs.Card.{alphaRefusal}
 use borrow.Author.Needs.{needs}
 use Rattle.card.proofs.calls.alpha_refusal.Statement.{statement}
@@ -21,4 +20,4 @@ alpha-refusal-spec =
     (λ c κs. search needs)
     (λ c κs. search needs)
     (λ c κs. search needs)
-    (λ c. simp (orElse-assoc, c .first3 .ensures, c .before .first2 .ensures, c .before .before .first .ensures, c .before .before .before .unless2 .ensures, c .before .before .before .before .before .unless .ensures, c .before .before .before .before .before .before .before .before .lent-refusal .ensures, c .before .before .before .before .before .before .before .before .before .state-refusal .ensures, c .before .before .before .before .before .before .before .before .before .before .phase-number .ensures)))
+    (λ c. simp (c .first3 .ensures, c .before .first2 .ensures, c .before .before .first .ensures, c .before .before .before .unless2 .ensures, c .before .before .before .before .before .unless .ensures, c .before .before .before .before .before .before .before .before .lent-refusal .ensures, c .before .before .before .before .before .before .before .before .before .state-refusal .ensures, c .before .before .before .before .before .before .before .before .before .before .phase-number .ensures)))

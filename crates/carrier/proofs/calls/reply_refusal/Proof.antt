@@ -1,5 +1,4 @@
 -- The callees' answers, put together. Assumes nothing.
-use Rattle.refusal.proofs.Refusals.{orElse-assoc}
 use Rattle.carrier.specs.Carrier.{replyRefusal}
 use borrow.Author.Needs.{needs}
 use Rattle.carrier.proofs.calls.reply_refusal.Statement.{statement}
@@ -22,7 +21,4 @@ reply-refusal-spec =
     (λ c κs. search needs)
     (λ c κs. search needs)
     (λ c κs. search needs)
-    (λ c κs. search needs)
-    (λ c κs. search needs)
-    (λ c κs. search needs)
-    (λ c. simp (orElse-assoc, c .first4 .ensures, c .before .first3 .ensures, c .before .before .first2 .ensures, c .before .before .before .unless3 .ensures, c .before .before .before .before .all-below .ensures, c .before .before .before .before .before .part .ensures, c .before .before .before .before .before .before .unless2 .ensures, c .before .before .before .before .before .before .before .reply-length .ensures .0, c .before .before .before .before .before .before .before .before .first .ensures, c .before .before .before .before .before .before .before .before .before .unless .ensures, c .before .before .before .before .before .before .before .before .before .before .has-sizes .ensures, c .before .before .before .before .before .before .before .before .before .before .before .check .ensures, c .before .before .before .before .before .before .before .before .before .before .before .before .state-refusal .ensures, c .before .before .before .before .before .before .before .before .before .before .before .before .before .phase-number .ensures, c .before .before .before .before .before .before .before .before .before .before .before .before .before .before .vectors-length .ensures .0)))
+    (λ c. simp (c .first3 .ensures, c .before .first2 .ensures, c .before .before .first .ensures, c .before .before .before .unless2 .ensures, c .before .before .before .before .all-below .ensures, c .before .before .before .before .before .part .ensures, c .before .before .before .before .before .before .unless .ensures, c .before .before .before .before .before .before .before .reply-length .ensures .0, c .before .before .before .before .before .before .before .before .lent-refusal .ensures, c .before .before .before .before .before .before .before .before .before .state-refusal .ensures, c .before .before .before .before .before .before .before .before .before .before .phase-number .ensures, c .before .before .before .before .before .before .before .before .before .before .before .vectors-length .ensures .0)))

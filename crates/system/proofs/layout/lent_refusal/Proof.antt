@@ -1,8 +1,8 @@
 -- The callees' answers, put together. Assumes nothing.
-use Rattle.card.specs.Card.{lentRefusal}
+use Rattle.system.specs.System.{lentRefusal}
 use borrow.Author.Needs.{needs}
-use Rattle.card.proofs.calls.lent_refusal.Statement.{statement}
-use Rattle.card.proofs.calls.lent_refusal.Tie as tie
+use Rattle.system.proofs.layout.lent_refusal.Statement.{statement}
+use Rattle.system.proofs.layout.lent_refusal.Tie as tie
 
 pub lent-refusal-spec : {M : Type 1} → statement M
 unfolding lentRefusal
