@@ -33,8 +33,7 @@ fn main() {
     let mut text = text_buffer();
     let words = os::arg_count();
     let written = match words {
-        WITH_THREE => three_files(&mut text),
-        WITH_FOUR => five_files(&mut text),
+        WITH_THREE | WITH_FOUR => audited_files(words, &mut text),
         _ => usage(),
     };
     print(&text, written);
@@ -85,8 +84,8 @@ fn five_text<'a>(
     audit_text(audit_five(system, a, b, c, d), byte_at(system, 1), text)
 }
 
-// Reads the four files and audits them.
-fn three_files(text: &mut [u8; 2048]) -> usize {
+// Reads a system and three or four records, as many as there are words for, and audits them.
+fn audited_files(words: usize, text: &mut [u8; 2048]) -> usize {
     let mut system = system_buffer();
     let mut a = record_buffer();
     let mut b = record_buffer();
@@ -103,43 +102,28 @@ fn three_files(text: &mut [u8; 2048]) -> usize {
     let Loaded::Whole(c_length) = load(4, &mut c) else {
         return 0;
     };
-    three_text(
-        part(&system, 0, system_length),
-        part(&a, 0, a_length),
-        part(&b, 0, b_length),
-        part(&c, 0, c_length),
-        text,
-    )
+    let system = part(&system, 0, system_length);
+    let a = part(&a, 0, a_length);
+    let b = part(&b, 0, b_length);
+    let c = part(&c, 0, c_length);
+    if words == WITH_THREE {
+        three_text(system, a, b, c, text)
+    } else {
+        with_fourth(system, a, b, c, text)
+    }
 }
 
-// Reads the five files and audits them.
-fn five_files(text: &mut [u8; 2048]) -> usize {
-    let mut system = system_buffer();
-    let mut a = record_buffer();
-    let mut b = record_buffer();
-    let mut c = record_buffer();
+// Reads the fourth record and audits all four.
+fn with_fourth<'a>(
+    system: &'a [u8],
+    a: &'a [u8],
+    b: &'a [u8],
+    c: &'a [u8],
+    text: &mut [u8; 2048],
+) -> usize {
     let mut d = record_buffer();
-    let Loaded::Whole(system_length) = load(1, &mut system) else {
-        return 0;
-    };
-    let Loaded::Whole(a_length) = load(2, &mut a) else {
-        return 0;
-    };
-    let Loaded::Whole(b_length) = load(3, &mut b) else {
-        return 0;
-    };
-    let Loaded::Whole(c_length) = load(4, &mut c) else {
-        return 0;
-    };
     let Loaded::Whole(d_length) = load(5, &mut d) else {
         return 0;
     };
-    five_text(
-        part(&system, 0, system_length),
-        part(&a, 0, a_length),
-        part(&b, 0, b_length),
-        part(&c, 0, c_length),
-        part(&d, 0, d_length),
-        text,
-    )
+    five_text(system, a, b, c, part(&d, 0, d_length), text)
 }
