@@ -1,1 +1,2 @@
+-- What the contracts of the audit's text cite.
 pub mod AuditLines

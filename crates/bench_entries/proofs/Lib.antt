@@ -1,1 +1,2 @@
+-- Laws of a session's calls in a row.
 mod Calls

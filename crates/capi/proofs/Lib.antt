@@ -1,1 +1,2 @@
+-- What the header file says beside the contracts.
 pub mod Header

@@ -1,1 +1,2 @@
+-- Laws of strings that are held with their length.
 pub mod HeldStrings

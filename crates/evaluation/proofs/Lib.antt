@@ -1,3 +1,4 @@
+-- F and G: the laws of their forms, and how the code's one pass meets them.
 pub mod Entries
 pub mod Evaluation
 pub mod Forms

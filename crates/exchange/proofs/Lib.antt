@@ -1,1 +1,2 @@
+-- Laws of a round's messages, for honest rounds and sessions.
 pub mod ReadBack

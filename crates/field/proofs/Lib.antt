@@ -1,3 +1,4 @@
+-- The laws of a field, of vectors and of rows; `Fields` is where a field plugs in.
 pub mod Modulus
 pub mod Prime
 pub mod Remainders

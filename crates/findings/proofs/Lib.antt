@@ -1,3 +1,4 @@
+-- The claim about audits; `Audits` has it for both schemes.
 pub mod Comparing
 pub mod Rejecting
 pub mod FullSets

@@ -1,1 +1,2 @@
+-- Laws of hex digits.
 mod Digits

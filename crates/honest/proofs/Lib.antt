@@ -1,1 +1,2 @@
+-- What honest rounds send is accepted, at the bytes.
 pub mod Honest

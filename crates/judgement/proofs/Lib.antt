@@ -1,1 +1,2 @@
+-- What the test of an opening says.
 pub mod Openings

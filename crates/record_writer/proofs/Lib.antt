@@ -1,1 +1,2 @@
+-- The round trip of writer and reader.
 pub mod RoundTrip

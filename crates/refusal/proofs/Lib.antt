@@ -1,1 +1,2 @@
+-- Laws of refusals and of what is kept.
 pub mod Refusals

@@ -1,1 +1,2 @@
+-- What the contract of the report cites: document 01, "Report program".
 pub mod Report

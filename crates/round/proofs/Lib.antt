@@ -1,1 +1,2 @@
+-- Honest and simulated rounds are accepted.
 pub mod Acceptance

@@ -1,3 +1,4 @@
+-- The claim about whole honest sessions; `HonestSession` has it.
 pub mod CardSide
 pub mod CarrierSide
 pub mod Counts

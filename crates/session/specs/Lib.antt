@@ -1,1 +1,2 @@
+-- What the claim about whole honest sessions says, in document 01's terms: "Sessions".
 pub mod Session

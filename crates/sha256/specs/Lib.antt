@@ -1,3 +1,4 @@
+-- What the contracts of this crate and of those above it cite: FIPS 180-4.
 pub mod Bytes
 pub mod Words
 pub mod Constants

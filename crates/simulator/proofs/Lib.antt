@@ -1,1 +1,2 @@
+-- What a simulation that is not refused has.
 pub mod NotRefused

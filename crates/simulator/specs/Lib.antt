@@ -1,1 +1,2 @@
+-- What the contract of the simulator cites: document 01, "Simulator".
 pub mod Simulator

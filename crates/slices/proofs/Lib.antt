@@ -1,3 +1,4 @@
+-- Laws of lists of bytes: what stands where, parts, equal lists, tests in a row.
 pub mod Booleans
 pub mod Tabulate
 pub mod Parts

@@ -1,1 +1,2 @@
+-- What the contracts of every crate cite of lists of bytes.
 pub mod Slices

@@ -1,1 +1,2 @@
+-- K1 to K12, proved.
 pub mod Examples
