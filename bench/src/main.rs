@@ -42,6 +42,9 @@ fn page(effort: Effort) -> String {
     page += "\n## How time grows\n\n";
     page += times::GROWTH;
     page += &times::growth(effort);
+    page += "\n## The longest calls\n\n";
+    page += times::LONGEST;
+    page += &times::longest(effort);
     page += "\n## Stack use\n\n";
     page += stacks::MEASURED;
     page += &stacks::measured();

@@ -35,6 +35,11 @@ pub fn micros(time: f64) -> String {
     }
 }
 
+/// Microseconds as milliseconds.
+pub fn millis(time: f64) -> String {
+    micros(time / 1000.0)
+}
+
 /// A ratio with two digits behind the point.
 pub fn ratio(a: f64, b: f64) -> String {
     format!("{:.2}", a / b)

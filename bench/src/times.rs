@@ -1,7 +1,7 @@
 //! The tables of times.
 
 use crate::inputs::{challenges_in_turn, elements, system, Card};
-use crate::table::{micros, ratio, Table};
+use crate::table::{micros, millis, ratio, Table};
 use crate::timing::{best, Effort, Side};
 use crate::{engine, plain};
 use reference::random::Generator;
@@ -277,4 +277,42 @@ fn growth_of_records(effort: Effort, random: &mut Generator) -> String {
         ]);
     }
     table.text().to_string()
+}
+
+pub const LONGEST: &str = "\
+The engine alone, on the largest inputs that it takes, best of some, in milliseconds. Every round is judged.
+
+";
+
+/// The largest n, m and N.
+const LARGEST: (u8, u8, u8) = (251, 96, 96);
+const MOST_ROUNDS: u8 = 255;
+
+/// The calls that take longest.
+pub fn longest(effort: Effort) -> String {
+    let mut random = Generator::from_seed(3);
+    let (q, n, m) = LARGEST;
+    let of_rounds = format!("records of {MOST_ROUNDS} rounds at {q}, {n}, {m}");
+    let mut table = Table::new(&["what", "milliseconds"]);
+    let card = Card::random(&mut random, Scheme::ThreePass, q, n, m, MOST_ROUNDS);
+    let records = card.three_records(&mut random);
+    let audit = || engine::audit_three(&card.system, &records).is_ok();
+    let time = alone(effort, audit);
+    table.row(vec![format!("audit of 3 {of_rounds}"), millis(time)]);
+    let card = Card::random(&mut random, Scheme::FivePass, q, n, m, MOST_ROUNDS);
+    let records = card.four_records(q);
+    let audit = || engine::audit_five(&card.system, &records).is_ok();
+    let time = alone(effort, audit);
+    table.row(vec![format!("audit of 4 {of_rounds}"), millis(time)]);
+    table.text().to_string()
+}
+
+/// Microseconds of a call that has to succeed.
+fn alone(effort: Effort, mut call: impl FnMut() -> bool) -> f64 {
+    let effort = Effort {
+        turns: effort.turns / 5,
+        ..effort
+    };
+    let mut sides: [Side; 1] = [Box::new(|| assert!(black_box(call())))];
+    best(effort, &mut sides)[0]
 }
