@@ -1,8 +1,7 @@
 -- Outcomes and the answers that hold them. Assumes nothing.
-use Prim.Native.Nat.{ℕ, _-_, _≤_}
-use mathlib.Core.Path.{_≡_, refl, sym, ap, ap₂, _∙_}
+use Prim.Native.Nat.{ℕ, _≤_}
+use mathlib.Core.Path.{_≡_, refl, ap, ap₂, _∙_}
 use mathlib.Core.List.{List, []}
-use lib.ListN.{length, take, replicate}
 use Rattle.slices.specs.Slices.{zeros}
 use Rattle.commitment.specs.declared.Text.{Text}
 use Rattle.commitment.specs.Held.{text}

@@ -1,7 +1,6 @@
 -- What the benchmarks' functions answer, by the definitions of the entries that they call.
 use Prim.Native.Nat.{ℕ}
 use mathlib.Core.List.{List}
-use lib.ListN.{length}
 use Rattle.refusal.specs.Refusal.{unless, _orElse_, kept}
 use Rattle.system.specs.System.{hasSizes, systemRefusal}
 use Rattle.record.specs.declared.layout.Header.{Header}

@@ -6,7 +6,7 @@ ghost use lib.ListN.{length};
 ghost use Rattle.refusal.specs.Refusal.{kept};
 ghost use Rattle.card.specs.Card.{sentCommitments, sentMiddle, sentReply, commitRefusal, alphaRefusal, replyRefusal as cardReplyRefusal};
 ghost use Rattle.carrier.specs.Carrier.{acceptsReply, replyRefusal as carrierReplyRefusal};
-ghost use Rattle.bench_entries.specs.Bench.{openCard, cardCommitted, cardAnswered, openCarrier, carrierAsked};
+ghost use Rattle.bench_entries.specs.Bench.{openCard, cardCommitted, cardAnswered, carrierAsked};
 
 // The card: open with one round, commit, reply to α, reply. Answers the refusal of the reply.
 #[no_mangle]

@@ -1,14 +1,13 @@
 -- A card's session is closed only by its last reply or by a refused opening, and a closed one is zero. Assumes nothing.
 use Prim.Native.Nat.{ℕ, _≤_, _<_}
-use mathlib.Core.Path.{_≡_, refl, ap}
+use mathlib.Core.Path.{_≡_, refl}
 use mathlib.Core.Bool.{Bool, true, false, cond}
 use mathlib.Core.List.{List, _++_, _∷_, []}
 use native.Mathlib.Omega.{arith}
-use lib.Dec.{eqb, ltb}
+use lib.Dec.{eqb}
 use borrow.Author.Tests.{lt-ltb, le-ltb}
 use Rattle.slices.specs.Slices.{zeros}
 use Rattle.session_state.specs.State.{nextCount}
-use Rattle.card.specs.declared.session.CardPhase.{CardPhase}
 use Rattle.card.specs.declared.session.CardPhase.the-variants.{AnswerAlpha, Reply}
 use Rattle.card.specs.declared.session.Card.{Card}
 use Rattle.card.specs.Card.{phaseNumber, closedCard, cardWith, openedCard, committedCard, answeredCard, nextCard, repliedCard}

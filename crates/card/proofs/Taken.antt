@@ -1,18 +1,17 @@
 -- What a call of the card that is not refused tells of its arguments, and that such a call is not refused. Assumes nothing.
 use Prim.Native.Nat.{ℕ, _+_, _<_}
-use mathlib.Core.Path.{_≡_, refl, sym, ap, _∙_}
+use mathlib.Core.Path.{_≡_}
 use mathlib.Core.Bool.{true}
 use mathlib.Core.List.{List}
 use native.Mathlib.Omega.{arith}
 use lib.ListN.{length, take}
 use borrow.Author.Tests.{eq-eqb, lt-ltb, ltb-true}
 use Rattle.slices.specs.Slices.{same}
-use Rattle.slices.proofs.Sameness.{same-true, same-by}
+use Rattle.slices.proofs.Sameness.{same-true}
 use Rattle.refusal.proofs.Refusals.{first-zero, later-zero, test-holds, equal-holds, both-zero, unless-holds}
 use Rattle.field.specs.Vector.{held, allBelow}
 use Rattle.system.specs.System.{qOf, nOf, mOf, areSizes, hasSizes, systemRefusal, lentRefusal, F}
 use Rattle.scheme.specs.Scheme.{isScheme, isRounds, challenges, commitmentsLength, replyLength}
-use Rattle.session_state.specs.State.{stateRefusal}
 use Rattle.session_state.proofs.States.{state-due, due-state}
 use Rattle.card.specs.declared.session.Card.{Card}
 use Rattle.card.specs.Card.{phaseNumber, openForm, openRefusal, commitRefusal, alphaRefusal, replyRefusal}

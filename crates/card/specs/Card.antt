@@ -4,12 +4,12 @@ use mathlib.Core.Bool.{cond}
 use mathlib.Core.List.{List}
 use lib.Dec.{ltb, eqb}
 use lib.ListN.{length, take}
-use Rattle.slices.specs.Slices.{_!_, same, zeros}
+use Rattle.slices.specs.Slices.{same, zeros}
 use Rattle.refusal.specs.Refusal.{unless, _orElse_}
 use Rattle.field.specs.Ops.{ops}
 use Rattle.field.specs.Vector.{held, subV, allBelow}
 use Rattle.system.specs.System.{qOf, nOf, mOf, areSizes, systemRefusal, lentRefusal, F}
-use Rattle.scheme.specs.Scheme.{isScheme, isRounds, challenges, commitmentsLength, vectorsLength, replyLength}
+use Rattle.scheme.specs.Scheme.{isScheme, isRounds, challenges, commitmentsLength, replyLength}
 use Rattle.protocol.specs.Protocols as P
 use Rattle.protocol.specs.Protocols.{t1By, e1By}
 use Rattle.protocol.specs.Rounds.{mapOf}
@@ -18,7 +18,6 @@ use Rattle.round.specs.FivePass.{replyFive}
 use Rattle.exchange.specs.declared.read.Lent.{Lent}
 use Rattle.exchange.specs.Messages.{lentIn, threeCommitments, fiveCommitments, middleBytes, replyThreeBytes, replyFiveBytes}
 use Rattle.exchange.specs.Card.{threeVectors, threeCommitted, fiveCommitted}
-use Rattle.session_state.specs.declared.Verdict.{Verdict}
 use Rattle.session_state.specs.declared.Verdict.the-variants.{None}
 use Rattle.session_state.specs.State.{stateRefusal, nextCount}
 use Rattle.card.specs.declared.session.CardPhase.{CardPhase}

@@ -1,11 +1,11 @@
 -- Laws of a string held in 322 bytes: how one grows, and what is read back. Assumes nothing.
-use Prim.Native.Nat.{ℕ, zero, suc, _+_, _-_, _≤_, _<_, min}
-use mathlib.Core.Path.{_≡_, refl, sym, ap, subst, _∙_}
+use Prim.Native.Nat.{ℕ, _+_, _-_, _≤_, _<_, min}
+use mathlib.Core.Path.{_≡_, refl, sym, ap, _∙_}
 use mathlib.Core.List.{List, [], _∷_, _++_}
-use native.Mathlib.Nat.{lt-of-not-le, min-eq-left, min-eq-right}
+use native.Mathlib.Nat.{lt-of-not-le, min-eq-left}
 use native.Mathlib.Decide.{decLe}
 use native.Mathlib.Omega.{arith}
-use lib.ListN.{length, take, drop, set, replicate, length-append, length-take, length-drop, List·getD-append, List·getD-eq-default}
+use lib.ListN.{length, take, drop, set, replicate, length-append, length-drop, List·getD-append, List·getD-eq-default}
 use lib.Seq.{ext-getD, getD-take, getD-drop, getD-append-add, length-take-le, take-all}
 use Rattle.slices.specs.Slices.{_!_, tabulate}
 use Rattle.slices.proofs.Tabulate.{length-tabulate, tabulate-at, tabulate-of}

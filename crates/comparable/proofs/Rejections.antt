@@ -1,6 +1,6 @@
 -- The first rejection among records in a row. Assumes nothing.
 use Prim.Native.Nat.{ℕ}
-use mathlib.Core.Path.{_≡_, sym, ap, _∙_}
+use mathlib.Core.Path.{_≡_, sym, _∙_}
 use borrow.Author.Tests.{ne-eqb}
 use Rattle.comparable.specs.declared.Rejection.{Rejection}
 use Rattle.comparable.specs.Comparable.{rejectedIn}

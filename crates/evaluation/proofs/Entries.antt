@@ -1,19 +1,17 @@
 -- What the entries over slices know where they refuse nothing, and what they then write. Assumes nothing.
 use Prim.Native.Nat.{ℕ, _≤_}
-use mathlib.Core.Path.{_≡_, refl, sym, ap, ap₂, _∙_}
+use mathlib.Core.Path.{_≡_, ap, ap₂, _∙_}
 use mathlib.Core.List.{List, _++_}
-use native.Mathlib.Omega.{arith}
 use lib.ListN.{length, take, drop}
 use lib.Seq.{length-take-le}
 use Rattle.slices.specs.Slices.{_!_}
 use Rattle.slices.proofs.Parts.{copied-whole}
-use Rattle.refusal.specs.Refusal.{unless, _orElse_}
 use Rattle.refusal.proofs.Refusals.{first-zero, later-zero, equal-holds}
 use Rattle.field.specs.Vector.{vector}
 use Rattle.system.specs.System.{nOf, mOf, systemRefusal, F, G}
 use Rattle.evaluation.specs.Entry.{evaluateRefusal, polarRefusal}
 use Rattle.evaluation.proofs.Laws.{F-held, G-held}
-use Rattle.system.proofs.SystemLayout.{Accepted, accepted}
+use Rattle.system.proofs.SystemLayout.{accepted}
 
 -- ---- evaluate
 

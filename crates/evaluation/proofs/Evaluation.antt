@@ -8,7 +8,7 @@ use lib.ListN.{replicate, getD-replicate}
 use Rattle.slices.specs.Slices.{_!_}
 use Rattle.field.specs.Ops.{Ops}
 use Rattle.field.specs.Field.{Field}
-use Rattle.field.specs.Vector.{sum, vector}
+use Rattle.field.specs.Vector.{sum}
 use Rattle.field.proofs.Fields.{field}
 use Rattle.field.proofs.Sums.{add-nought, mul-nought, sum-below, sum-cong, sum-split}
 use Rattle.field.proofs.Vectors.{vector-cong}

@@ -1,6 +1,6 @@
 -- Laws of sums over pairs, of a polynomial and of its polar form, over any field. Assumes nothing.
-use Prim.Native.Nat.{ℕ, _+_, _-_, _≤_, _<_}
-use mathlib.Core.Path.{_≡_, refl, sym, ap, ap₂, fun-ext, _∙_}
+use Prim.Native.Nat.{ℕ, _+_, _-_, _<_}
+use mathlib.Core.Path.{_≡_, ap, ap₂, fun-ext, _∙_}
 use native.Mathlib.Omega.{arith}
 use Rattle.field.specs.Ops.{Ops}
 use Rattle.field.specs.Field.{Field}

@@ -3,7 +3,7 @@ use Prim.Native.Nat.{ℕ, _≤_, _<_}
 use mathlib.Core.Path.{_≡_, refl, sym, ap, ap₂, _∙_}
 use mathlib.Core.List.{List}
 use native.Mathlib.Omega.{arith}
-use Rattle.field.specs.Ops.{Ops, ops}
+use Rattle.field.specs.Ops.{Ops}
 use Rattle.field.specs.Field.{Field}
 use Rattle.slices.specs.Slices.{_!_}
 use Rattle.field.specs.Vector.{vector, addV, subV, mulV}
@@ -13,7 +13,7 @@ use Rattle.field.proofs.Sums.{sub-of}
 use Rattle.system.specs.Polynomial.{polynomial}
 use Rattle.system.specs.System.{qOf, nOf, mOf, opsOf, quadratic, linear, F, G}
 use Rattle.evaluation.specs.Polar.{polar, expanded}
-use Rattle.evaluation.proofs.Forms.{polar-below, polynomial-below, polynomial-cong, polynomial-add, polar-cong, polar-comm, polar-add, polar-mul}
+use Rattle.evaluation.proofs.Forms.{polar-below, polynomial-cong, polynomial-add, polar-cong, polar-comm, polar-add, polar-mul}
 
 -- what is left of a sum when its first two parts are taken away
 sub-sub : (o : Ops) (k : Field o) (s p q r : ℕ) → r < o .size → s ≡ o .add p (o .add q r) → o .sub (o .sub s p) q ≡ r

@@ -5,7 +5,8 @@ use Rattle.system.specs.System.{nOf, mOf}
 use Rattle.protocol.specs.Protocols.{Vectors, cardThree}
 use Rattle.protocol.specs.Rounds.{mapOf}
 use Rattle.round.specs.declared.pieces.Commitments.{Commitments}
-use Rattle.round.specs.ThreePass.{commitmentsThree}
+use Rattle.round.specs.declared.pieces.ReplyThree.{ReplyThree}
+use Rattle.round.specs.ThreePass.{commitmentsThree, replyThree}
 use Rattle.round.specs.FivePass.{commitmentsFive}
 use Rattle.exchange.specs.Messages.{lentIn}
 
@@ -15,6 +16,9 @@ threeVectors b s lent = let l = lentIn (nOf b) (mOf b) lent in cardThree (mapOf 
 
 unfoldable pub threeCommitted : List ℕ → List ℕ → List ℕ → Commitments
 threeCommitted b s lent = commitmentsThree (nOf b) (mOf b) (threeVectors b s lent) (lentIn (nOf b) (mOf b) lent .rhos)
+
+unfoldable pub threeReplied : List ℕ → List ℕ → List ℕ → ℕ → ReplyThree
+threeReplied b s lent challenge = replyThree (threeVectors b s lent) (lentIn (nOf b) (mOf b) lent .rhos) challenge
 
 -- "Lent as one slice: r0, t0, e0, ρ0, ρ1"
 unfoldable pub fiveCommitted : List ℕ → List ℕ → List ℕ → Commitments

@@ -6,8 +6,8 @@ use lib.Dec.{eqb}
 use borrow.Author.Tests.{eqb-true}
 use Rattle.field.specs.Ops.{isField, modulus, ops}
 use Rattle.field.specs.Field.{Field}
-use Rattle.field.proofs.Modulus.{modulus-pos, modulus-other}
-use Rattle.field.proofs.Prime.{Prime, by-trial}
+use Rattle.field.proofs.Modulus.{modulus-pos}
+use Rattle.field.proofs.Prime.{by-trial}
 use Rattle.field.proofs.Remainders.{Cancels, prime-cancels, one-cancels, remainders-field}
 
 -- what holds of the four q and of 1 holds of every modulus

@@ -3,10 +3,9 @@ use Prim.Native.Nat.{ℕ, zero, suc, _+_, _-_, _*_, _/_, _%_, _≤_, _<_, _∣_}
 use mathlib.Core.Path.{_≡_, refl, sym, ap, subst, _∙_}
 use mathlib.Core.Bool.{Bool, true, false, not, _||_, _&&_}
 use mathlib.Core.Logic.{_⊎_, inl, inr, ⊎-elim}
-use native.Mathlib.Nat.{add-mul, mul-assoc, mul-comm, one-mul, not-suc-le-zero, le-of-dvd, pos-of-dvd-of-pos, mod-lt, mod-eq-zero-of-dvd, dvd-of-mod-eq-zero, dvd-mul-right, dvd-mul-left-of-dvd, dvd-add-iff-right, dvd-sub, div-add-mod, eq-or-lt-of-le, le-of-suc-le-suc}
+use native.Mathlib.Nat.{add-mul, mul-assoc, mul-comm, one-mul, le-of-dvd, pos-of-dvd-of-pos, mod-lt, mod-eq-zero-of-dvd, dvd-of-mod-eq-zero, dvd-mul-right, dvd-mul-left-of-dvd, dvd-add-iff-right, div-add-mod, eq-or-lt-of-le, le-of-suc-le-suc}
 use native.Mathlib.Omega.{arith}
-use lib.Dec.{T, leb, eqb, ltb, leb→le, eqb→eq, eqb-refl, ltb→lt}
-use borrow.Author.Tests.{le-leb}
+use lib.Dec.{T, leb, eqb, ltb, leb→le, ltb→lt}
 
 -- a number above 1 that only 1 and itself divide
 pub record Prime (p : ℕ) : Type 0 where

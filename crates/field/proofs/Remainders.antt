@@ -1,11 +1,11 @@
 -- Remainders by p obey the laws of `Field`, those of sums and products for every p above 0, and cancellation for every prime. Assumes nothing.
 use Prim.Native.Nat.{ℕ, suc, _+_, _-_, _*_, _/_, _%_, _≤_, _<_, _∣_}
-use mathlib.Core.Path.{_≡_, refl, sym, ap, subst, _∙_}
+use mathlib.Core.Path.{_≡_, sym, ap, subst, _∙_}
 use mathlib.Core.Logic.{⊎-elim}
 use native.Mathlib.Nat.{add-assoc, add-comm, zero-add, add-mul, mul-add, mul-assoc, mul-comm, mul-sub, mod-lt, mod-eq-of-lt, mod-add-mod, add-mod-mod, mul-add-mod-self-left, div-add-mod, dvd-mul-right, dvd-sub, le-of-dvd, pos-of-ne-zero, eq-or-lt-of-le, lt-of-not-le}
 use native.Mathlib.Omega.{arith}
 use native.Mathlib.Decide.{decLe}
-use Rattle.field.specs.Ops.{Ops, remainders}
+use Rattle.field.specs.Ops.{remainders}
 use Rattle.field.specs.Field.{Field}
 use Rattle.field.proofs.Prime.{Prime, euclid}
 

@@ -1,16 +1,16 @@
 -- What the loops over rows hold: the largest byte, sums of products, a row that is being filled. Assumes nothing.
 use Prim.Native.Nat.{ℕ, zero, suc, _+_, _-_, _*_, _%_, _≤_, _<_, max}
-use mathlib.Core.Path.{_≡_, refl, sym, ap, ap₂, subst, fun-ext, _∙_}
+use mathlib.Core.Path.{_≡_, refl, sym, ap, ap₂, fun-ext, _∙_}
 use mathlib.Core.Bool.{Bool, true, false, _&&_, and-true}
-use mathlib.Core.List.{List, [], _∷_, _++_, append-assoc, append-nil}
+use mathlib.Core.List.{List, [], _∷_, _++_}
 use native.Mathlib.Nat.{add-zero, add-suc, add-assoc, zero-mul, zero-mod, mod-mod, add-mod, not-suc-le-zero, max-zero}
 use native.Mathlib.Numerals.{add-one}
 use native.Mathlib.Omega.{arith}
 use lib.Dec.{ltb}
-use lib.ListN.{length, getD, take, drop, set, length-drop}
-use lib.Seq.{take-suc, take-all, length-take-le, drop-cons, drop-length, set-at, getD-take, getD-drop, append-snoc}
+use lib.ListN.{length, take, drop}
+use lib.Seq.{take-suc, take-all}
 use borrow.Author.Tests.{ltb-true, ltb-false, lt-ltb, le-ltb}
-use Rattle.field.specs.Ops.{isField, modulus, ops}
+use Rattle.field.specs.Ops.{modulus, ops}
 use Rattle.slices.proofs.Parts.{part-at, length-part}
 use Rattle.slices.specs.Slices.{_!_, tabulate}
 use Rattle.field.specs.Vector.{allBelow, sum}

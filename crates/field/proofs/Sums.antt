@@ -1,7 +1,7 @@
 -- What follows from the laws of a field: more laws of sums and products, and of sums over an index. Assumes nothing.
 use Prim.Native.Nat.{ℕ, zero, suc, _+_, _<_}
 use mathlib.Core.Path.{_≡_, refl, sym, ap, ap₂, _∙_}
-use native.Mathlib.Nat.{add-zero, add-suc, not-suc-le-zero}
+use native.Mathlib.Nat.{add-zero, add-suc}
 use native.Mathlib.Omega.{arith}
 use Rattle.field.specs.Ops.{Ops}
 use Rattle.field.specs.Field.{Field}

@@ -1,5 +1,5 @@
 -- Demand 3's first half for both audits: the laws of each scheme, and the claims. Assumes nothing.
-use Prim.Native.Nat.{ℕ, zero, suc, _≤_, _<_}
+use Prim.Native.Nat.{ℕ, zero, suc, _<_}
 use mathlib.Core.Path.{_≡_, refl, sym, ap₂, subst, _∙_}
 use mathlib.Core.Bool.{true}
 use mathlib.Core.Logic.{_⊎_, inl, inr, ⊎-elim}
@@ -8,17 +8,17 @@ use native.Mathlib.Omega.{arith}
 use lib.Dec.{eqb}
 use Rattle.slices.proofs.Booleans.{either}
 use Rattle.slices.proofs.Sameness.{same-true}
-use Rattle.system.specs.System.{nOf, mOf, F, systemRefusal}
+use Rattle.system.specs.System.{F, systemRefusal}
 use Rattle.system.proofs.SystemLayout.{accepted}
 use Rattle.record.specs.declared.layout.Header.{Header}
 use Rattle.record.specs.Reader.{headerIn}
 use Rattle.transcript.specs.Transcript.{keyVector, roundChallenge}
 use Rattle.comparable.proofs.Front.{Front}
 use Rattle.openings.specs.Openings.{openingIn, compared, sameOpenings, secretOf}
-use Rattle.full_set.specs.FullSet.{answering, fullSet}
+use Rattle.full_set.specs.FullSet.{answering}
 use Rattle.clash.specs.Clash.{lowerChallenge, higherChallenge, leftRecord, rightRecord, leftOpening, rightOpening, samePair, pairs}
 use Rattle.auditing.specs.Audit.{auditThree, auditFive}
-use Rattle.findings.specs.Findings.{Auditable, AllAccepted, FullThree, FullFive, Among, OrderThree, OrderFive, Scheme, threePass, fivePass, Each, none-left, each, Claim}
+use Rattle.findings.specs.Findings.{Auditable, AllAccepted, FullThree, FullFive, OrderFive, threePass, fivePass, Each, none-left, each, Claim}
 use Rattle.findings.proofs.Comparing.{auditable, readable, alike, fitting, alike-itself}
 use Rattle.findings.proofs.Rejecting.{three-walk, five-walk}
 use Rattle.findings.proofs.FullSets.{answering-among, answers, AnsweredAll, answered-all, three-full, full-three, five-full, full-five, set-three, set-five}

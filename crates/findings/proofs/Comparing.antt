@@ -1,18 +1,15 @@
 -- What is refused before the rounds are judged, against the records: nothing exactly where they are to be audited, and no number above 7. Assumes nothing.
-use Prim.Native.Nat.{ℕ, zero, suc, _≤_}
+use Prim.Native.Nat.{ℕ, _≤_}
 use mathlib.Core.Path.{_≡_, sym, ap, _∙_}
-use mathlib.Core.Bool.{Bool, true, false, cond}
 use mathlib.Core.List.{List}
 use native.Mathlib.Omega.{arith}
-use lib.Dec.{T, leb, eqb, leb→le}
 use lib.ListN.{take}
 use lib.Seq.{getD-take}
 use borrow.Author.Tests.{eq-eqb}
 use Rattle.slices.specs.Slices.{same}
 use Rattle.slices.proofs.Sameness.{same-true, same-by, same-refl}
-use Rattle.refusal.specs.Refusal.{unless, _orElse_, firstOf}
 use Rattle.refusal.proofs.Refusals.{first-zero, later-zero, test-holds, equal-holds, both-zero, unless-holds, unless-most, orElse-most, firstOf-most}
-use Rattle.system.specs.System.{hasSizes, systemRefusal}
+use Rattle.system.specs.System.{hasSizes}
 use Rattle.system.proofs.SystemLayout.{has-sizes, sizes-has, system-most}
 use Rattle.record.specs.declared.layout.Header.{Header}
 use Rattle.record.specs.declared.form.Check.the-variants.{FileOrder}

@@ -1,13 +1,13 @@
 -- What an audited record holds: its key is that of the first, and the key, the first vector of each reply and α are elements. Assumes nothing.
 use Prim.Native.Nat.{ℕ, _+_, _≤_, _<_}
-use mathlib.Core.Path.{_≡_, refl, sym, ap, ap₂, subst, _∙_}
+use mathlib.Core.Path.{_≡_, refl, sym, ap, subst, _∙_}
 use mathlib.Core.Bool.{Bool, true, false}
 use mathlib.Core.List.{List}
 use native.Mathlib.Nat.{lt-of-not-le, zero-add}
 use native.Mathlib.Decide.{decLe}
 use native.Mathlib.Omega.{arith}
 use lib.Dec.{eqb}
-use lib.ListN.{length, take, drop, List·getD-eq-default}
+use lib.ListN.{length, drop, List·getD-eq-default}
 use lib.Seq.{getD-take}
 use Rattle.slices.specs.Slices.{_!_}
 use Rattle.field.specs.Vector.{vector, slotV}
@@ -19,7 +19,7 @@ use Rattle.protocol.specs.Rounds.{IsX, IsY, IsScalar}
 use Rattle.protocol.proofs.SystemMap.{is-vector}
 use Rattle.scheme.specs.Scheme.{middleLength, vectorsLength, rhosLength, replyLength}
 use Rattle.record.specs.declared.layout.Header.{Header}
-use Rattle.record.specs.Record.{Elements, ValidExchange, Valid, layoutOf, exchangeOf, middleOf, replyOf, vectorsOf}
+use Rattle.record.specs.Record.{Elements, ValidExchange, layoutOf, replyOf, vectorsOf}
 use Rattle.record.specs.Reader.{headerIn, fieldsIn, recordRefusal}
 use Rattle.record.proofs.RecordLayout.{not-refused, valid-fields}
 use Rattle.transcript.specs.Transcript.{keyVector, roundExchange, roundMiddle, roundReply}

@@ -1,24 +1,24 @@
 -- The claim about an audit from the laws of its scheme, which are said here as well. Assumes nothing.
-use Prim.Native.Nat.{ℕ, zero, suc, _+_, _-_, _*_, _≤_, _<_}
+use Prim.Native.Nat.{ℕ, zero, suc, _-_, _*_, _<_}
 use mathlib.Core.Path.{_≡_, refl, sym, ap, ap₂, subst, _∙_}
 use mathlib.Core.Bool.{true, false, false≢true, not}
 use mathlib.Core.Logic.{inl, inr}
-use mathlib.Core.List.{List, [], _∷_}
+use mathlib.Core.List.{List, _∷_}
 use native.Mathlib.Omega.{arith}
 use borrow.Author.Tests.{not-true, not-false}
 use lib.ListN.{take, drop}
 use Rattle.slices.proofs.Sameness.{same-by}
 use Rattle.sha256.specs.Sha256.{sha256}
-use Rattle.system.specs.System.{opsOf, nOf, F, systemRefusal, WellFormedSystem}
+use Rattle.system.specs.System.{F, systemRefusal}
 use Rattle.system.proofs.SystemLayout.{well-formed, not-refused}
-use Rattle.protocol.specs.Rounds.{mapOf, IsX}
+use Rattle.protocol.specs.Rounds.{mapOf}
 use Rattle.protocol.proofs.Rounds.{quadratic-map}
 use Rattle.round.specs.Pieces.{commitment}
 use Rattle.exchange.specs.Messages.{commitmentsIn}
 use Rattle.scheme.specs.Scheme as S
 use Rattle.record.specs.declared.layout.Header.{Header}
-use Rattle.record.specs.Reader.{headerIn, fieldsIn}
-use Rattle.transcript.specs.Transcript.{keyVector, roundCommitments, acceptedRound}
+use Rattle.record.specs.Reader.{headerIn}
+use Rattle.transcript.specs.Transcript.{keyVector, roundCommitments}
 use Rattle.transcript.proofs.Search.{FirstIs, where-none, found-where}
 use Rattle.comparable.specs.declared.Rejection.{Rejection}
 use Rattle.comparable.specs.Comparable.{frontRefusal, rejectionOf}
@@ -26,10 +26,9 @@ use Rattle.comparable.proofs.Front.{Front, front, none-refused}
 use Rattle.openings.specs.Openings.{openingIn, compared, sameOpenings, secretOf}
 use Rattle.full_set.specs.FullSet.{answering, fullSet, firstFull}
 use Rattle.clash.specs.Clash.{leftRecord, rightRecord, leftOpening, rightOpening, samePair, pairs, firstClash}
-use Rattle.auditing.specs.Outcome.{Outcome, refused}
 use Rattle.auditing.specs.Audit.{secretAt, clashAt, findingAt, searchOf, auditOf}
 use Rattle.auditing.proofs.Outcomes.{finding-secret, finding-clash, search-none, search-found, audit-refused, audit-rejected, audit-searched}
-use Rattle.findings.specs.Findings.{Auditable, AllAccepted, Each, Scheme, Due, TrueClash, Right, IsFinding, Claim}
+use Rattle.findings.specs.Findings.{Auditable, AllAccepted, Each, Scheme, Due, Right, IsFinding, Claim}
 use Rattle.findings.proofs.Comparing.{front-number}
 use Rattle.findings.proofs.Rejecting.{walk, all-accepted, none-rejected, first-rejected}
 use Rattle.findings.proofs.Strings.{Opened}

@@ -6,19 +6,18 @@ use native.Mathlib.Omega.{arith}
 use lib.ListN.{length, take, drop}
 use lib.Seq.{take-append-seam, drop-append-seam, getD-take}
 use Rattle.slices.specs.Slices.{_!_}
-use Rattle.field.specs.Vector.{vector, slotV, addV, subV, IsVector}
+use Rattle.field.specs.Vector.{vector, slotV, addV}
 use Rattle.field.proofs.Vectors.{vector-at, vector-cong}
 use Rattle.system.specs.System.{qOf, nOf, mOf, opsOf, F, systemRefusal}
 use Rattle.system.proofs.SystemLayout.{accepted}
 use Rattle.protocol.specs.Protocols.{t0Of, e0Of, unmasked, masked, AgreeThree, t0By, e0By, unmaskedBy, AgreeFive}
-use Rattle.protocol.specs.Rounds.{mapOf, IsX, IsY}
+use Rattle.protocol.specs.Rounds.{mapOf, IsX}
 use Rattle.protocol.proofs.Rounds.{quadratic-map, soundness-three, soundness-five}
-use Rattle.round.specs.declared.pieces.Middle.{Middle}
 use Rattle.round.specs.ThreePass.{openedFirst, openedSecond, firstNumber}
 use Rattle.exchange.specs.Messages.{middleIn, replyThreeIn, replyFiveIn}
 use Rattle.exchange.proofs.ReadBack.{Held, length-held}
 use Rattle.record.specs.Reader.{headerIn}
-use Rattle.transcript.specs.Transcript.{keyVector, roundMiddle, roundChallenge, roundReply}
+use Rattle.transcript.specs.Transcript.{keyVector, roundMiddle, roundChallenge}
 use Rattle.openings.specs.Openings.{openingIn, compared, replyVector, secretOf}
 use Rattle.findings.specs.Findings.{Auditable, FullFive}
 use Rattle.findings.proofs.Strings.{replyIn, replyInFive, sentIn, first-vectors, second-vectors, zero-vectors, one-vectors}

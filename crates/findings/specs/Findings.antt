@@ -8,7 +8,6 @@ use mathlib.Core.List.{List, [], _∷_}
 use lib.ListN.{length}
 use Rattle.slices.specs.Slices.{_!_}
 use Rattle.sha256.specs.Sha256.{sha256}
-use Rattle.commitment.specs.declared.Domain.{Domain}
 use Rattle.commitment.specs.Commitment.{hashedString}
 use Rattle.system.specs.System.{qOf, nOf, mOf, F, WellFormedSystem}
 use Rattle.protocol.specs.Rounds.{IsX}

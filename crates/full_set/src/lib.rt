@@ -7,8 +7,6 @@ use slices::equal;
 use transcript::round_challenge;
 use transcript::round_middle;
 ghost use mathlib.Core.Path.{_≡_};
-ghost use Prim.Native.Nat.{_≤_};
-ghost use Rattle.record.specs.Reader.{headerIn};
 ghost use Rattle.full_set.specs.FullSet.{answering as answeringOf, answered as answeredOf, fullThree, askedBoth, fullFive, fullSet, firstFull};
 
 // The first of three records whose challenge in a round is the one given, the last where it is no other's.

@@ -2,7 +2,6 @@
 -- a - b = r from b + r = a (`sub-of`), and back (`of-sub`); what is left are sums, which `simp` sorts. Assumes nothing.
 use Prim.Native.Nat.{ℕ, zero, suc, _≤_}
 use mathlib.Core.Path.{_≡_, refl, sym, ap, ap₂, _∙_}
-use mathlib.Core.Bool.{Bool, true, false, cond}
 use native.Mathlib.Omega.{arith}
 use lib.Dec.{eqb}
 use Rattle.slices.proofs.Booleans.{either}

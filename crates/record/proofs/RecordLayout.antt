@@ -1,16 +1,15 @@
 -- A record is refused exactly when it is not well-formed; what the layout says of a record's fields, and of a record made of fields. Assumes nothing.
-use Prim.Native.Nat.{ℕ, suc, _+_, _*_, _≤_, _<_}
+use Prim.Native.Nat.{ℕ, _+_, _≤_}
 use mathlib.Core.Path.{_≡_, refl, sym, ap, ap₂, _∙_}
 use mathlib.Core.Bool.{true}
 use mathlib.Core.List.{List, [], _∷_, _++_, append-assoc, append-nil}
 use native.Mathlib.Omega.{arith}
-use lib.Dec.{leb, eqb}
+use lib.Dec.{leb}
 use lib.ListN.{length, take, drop, length-append, length-drop}
 use lib.Seq.{length-take-le, take-all, take-add, take-at, drop-at}
-use borrow.Author.Tests.{leb-true, eqb-true, le-leb, eq-eqb}
+use borrow.Author.Tests.{leb-true, le-leb, eq-eqb}
 use Rattle.slices.specs.Slices.{_!_, same}
 use Rattle.slices.proofs.Sameness.{same-true, same-by}
-use Rattle.refusal.specs.Refusal.{unless, _orElse_}
 use Rattle.refusal.proofs.Refusals.{first-zero, later-zero, test-holds, equal-holds, both-zero, unless-holds}
 use Rattle.field.specs.Vector.{allBelow}
 use Rattle.system.proofs.SystemLayout.{all-below-at, at-all-below}

@@ -1,13 +1,12 @@
 -- The checks of a record's form hold exactly where each value is among its values. Assumes nothing.
 use Prim.Native.Nat.{ℕ, _≤_, _<_}
-use mathlib.Core.Path.{_≡_, refl}
+use mathlib.Core.Path.{_≡_}
 use mathlib.Core.Bool.{true, _&&_}
 use mathlib.Core.List.{List}
 use lib.Dec.{leb}
 use borrow.Author.Tests.{leb-true, ltb-true, le-leb, lt-ltb}
 use Rattle.slices.proofs.Booleans.{and-left, and-right}
 use Rattle.refusal.proofs.Refusals.{first-zero, later-zero, test-holds, both-zero, unless-holds, firstOf-each, firstOf-none}
-use Rattle.field.specs.Ops.{isField}
 use Rattle.field.specs.Vector.{allBelow}
 use Rattle.system.specs.System.{areSizes}
 use Rattle.system.proofs.SystemLayout.{Sizes, sizes, sizes-true, all-below-at, at-all-below}

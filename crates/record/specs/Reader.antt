@@ -1,5 +1,5 @@
 -- The reader's answer: "The reader answers the header and the offset and length of each body".
-use Prim.Native.Nat.{ℕ, _+_}
+use Prim.Native.Nat.{ℕ}
 use mathlib.Core.Bool.{cond}
 use mathlib.Core.List.{List}
 use lib.Dec.{leb, eqb}

@@ -17,8 +17,6 @@ use slices::part;
 ghost use mathlib.Core.Path.{_≡_};
 ghost use lib.ListN.{take, drop};
 ghost use Rattle.slices.specs.Slices.{same};
-ghost use Rattle.refusal.specs.Refusal.{unless as unlessOf, _orElse_};
-ghost use Rattle.record.specs.declared.form.Check.the-variants.{FileOrder};
 ghost use Rattle.record.specs.Record.{table as tableOf};
 ghost use Rattle.record.specs.Reader.{headerIn, bodyIn, recordRefusal, refusalOf, readingOf};
 

@@ -1,7 +1,6 @@
 -- What is written is read back, and what is read is what the writer makes of it. Assumes nothing.
 use Prim.Native.Nat.{ℕ}
 use mathlib.Core.Path.{_≡_, refl, ap, _∙_}
-use mathlib.Core.Bool.{true}
 use mathlib.Core.List.{List}
 use lib.ListN.{length}
 use borrow.Author.Tests.{eq-eqb}
@@ -11,7 +10,7 @@ use Rattle.system.proofs.SystemLayout.{all-below-at, at-all-below}
 use Rattle.record.specs.declared.form.Check.the-variants.{Elements, Challenges}
 use Rattle.record.specs.declared.reader.Reading.the-variants.{Good}
 use Rattle.record.specs.Record.{Fields, commitmentsLength, exchangesLength, layoutOf, recordLength, written, Valid}
-use Rattle.record.specs.Form.{areValues, exchangesRefusal}
+use Rattle.record.specs.Form.{areValues}
 use Rattle.record.specs.Reader.{fieldsIn, recordRefusal, readingOf}
 use Rattle.record.proofs.ValidForm.{values, values-true, valid-each, each-zero}
 use Rattle.record.proofs.Readings.{reading-good}

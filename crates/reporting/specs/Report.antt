@@ -6,7 +6,7 @@ use lib.Dec.{leb, eqb}
 use lib.ListN.{length, take, drop}
 use Rattle.slices.specs.Slices.{placed}
 use Rattle.refusal.specs.Refusal.{unless, _orElse_}
-use Rattle.system.specs.System.{qOf, nOf, mOf, systemLength, hasSizes, systemRefusal}
+use Rattle.system.specs.System.{nOf, mOf, systemLength, hasSizes, systemRefusal}
 use Rattle.record.specs.Reader.{headerIn, recordRefusal}
 use Rattle.transcript.specs.Transcript.{roundChallenge, acceptedRound, acceptedCount}
 use Rattle.report_lines.specs.ReportLines.{roundLine, verdictLine, refusedLine}

@@ -1,22 +1,19 @@
 -- Completeness and simulation as verdicts: where the vectors of a round open as they were committed to, the reply is accepted. Assumes nothing.
 use Prim.Native.Nat.{ℕ, zero, suc, _≤_}
-use mathlib.Core.Path.{_≡_, refl, sym, ap, ap₂, _∙_}
-use mathlib.Core.Bool.{Bool, true, _&&_}
+use mathlib.Core.Path.{_≡_, refl, ap, ap₂}
+use mathlib.Core.Bool.{true}
 use mathlib.Core.List.{List, _++_}
 use native.Mathlib.Omega.{arith}
 use lib.ListN.{take}
-use Rattle.slices.specs.Slices.{same}
 use Rattle.slices.proofs.Booleans.{and-both}
 use Rattle.slices.proofs.Sameness.{same-by}
-use Rattle.sha256.specs.Sha256.{sha256}
-use Rattle.commitment.specs.Commitment.{hashedString, Com}
-use Rattle.system.specs.System.{qOf, nOf, mOf, opsOf, systemRefusal, F}
+use Rattle.commitment.specs.Commitment.{Com}
+use Rattle.system.specs.System.{qOf, nOf, mOf, systemRefusal, F}
 use Rattle.protocol.specs.Protocols as P
 use Rattle.protocol.specs.Protocols.{OpensThree, OpensFive, cardThree, cardFive, simulated, t0Of, r1Of, t1By, e1By}
 use Rattle.protocol.specs.Rounds.{mapOf, IsX, IsY}
 use Rattle.protocol.proofs.Rounds.{completeness-three, completeness-five, simulation}
 use Rattle.round.specs.declared.pieces.Rhos.{Rhos}
-use Rattle.round.specs.declared.pieces.Middle.{Middle}
 use Rattle.round.specs.Pieces.{commitment}
 use Rattle.round.specs.ThreePass.{three, commitmentsThree, replyThree, openedFirst, openedSecond, firstNumber, secondNumber, firstString, secondString, acceptsThree}
 use Rattle.round.specs.FivePass.{five, commitmentsFive, replyFive, openingFive, acceptsFive}

@@ -13,7 +13,7 @@ use Rattle.commitment.specs.Commitment.{hashedString, Com}
 use Rattle.system.specs.System.{qOf, nOf, mOf}
 use Rattle.protocol.specs.Structure.{QuadraticOps}
 use Rattle.protocol.specs.Protocols as P
-use Rattle.protocol.specs.Protocols.{t0Of, e0Of, unmasked, masked}
+use Rattle.protocol.specs.Protocols.{e0Of, unmasked, masked}
 use Rattle.protocol.specs.Rounds.{mapOf}
 use Rattle.round.specs.Pieces.{commitment}
 use Rattle.round.specs.declared.pieces.Rhos.{Rhos}

@@ -1,6 +1,6 @@
 -- The card's calls along an honest session: each leaves the two ends linked, and none is refused when it is due. Assumes nothing.
 use Prim.Native.Nat.{ℕ, _+_, _≤_, _<_}
-use mathlib.Core.Path.{_≡_, refl, sym, ap, ap₂, _∙_}
+use mathlib.Core.Path.{_≡_, refl, ap, _∙_}
 use mathlib.Core.Bool.{Bool, true, false, cond}
 use mathlib.Core.List.{List}
 use mathlib.Core.Logic.{⊎-elim}
@@ -8,12 +8,11 @@ use mathlib.Core.Option.{some}
 use native.Mathlib.Nat.{eq-or-lt-of-le, le-refl, lt-of-not-le}
 use native.Mathlib.Decide.{decLe}
 use native.Mathlib.Omega.{arith}
-use lib.Dec.{eqb, ltb}
+use lib.Dec.{eqb}
 use lib.ListN.{length, take}
-use borrow.Author.Tests.{eqb-true, eqb-false, eq-eqb, ne-eqb, lt-ltb, le-ltb}
-use Rattle.slices.specs.Slices.{zeros}
+use borrow.Author.Tests.{eqb-true, eqb-false, ne-eqb, lt-ltb, le-ltb}
 use Rattle.field.specs.Vector.{allBelow}
-use Rattle.system.specs.System.{qOf, nOf, mOf, areSizes, hasSizes, systemRefusal}
+use Rattle.system.specs.System.{qOf, nOf, mOf, systemRefusal}
 use Rattle.system.proofs.SystemLayout.{at-all-below, sizes-has, sizes-true, accepted}
 use Rattle.scheme.specs.Scheme.{challenges, commitmentsLength, replyLength}
 use Rattle.record.specs.Record.{Elements}
@@ -33,7 +32,7 @@ use Rattle.card.proofs.Taken.{commit-taken, commit-due, alpha-taken, alpha-due,
 use Rattle.session.specs.Session.{Opening, Given, Asked, World, put, cardMoves}
 use Rattle.session.proofs.Logs.{Clear, put-there, put-stays, put-clear, clear-next}
 use Rattle.session.proofs.States as St
-use Rattle.session.proofs.States.{GivenStays, Link, CardState, Past, past-stays, carrier-stays, given-same, asked-same}
+use Rattle.session.proofs.States.{GivenStays, Link, CardState, Past, past-stays, carrier-stays, asked-same}
 
 pub by-scheme : {P : Type 0} (scheme : ℕ) → (scheme ≡ 3 → P) → ((scheme ≡ 3 → ⊥) → P) → P
 by-scheme {P = P} scheme three other = go (eqb scheme 3) refl

@@ -1,39 +1,34 @@
 -- The carrier's calls along an honest session: each leaves the two ends linked, none is refused when it is due, and every reply is accepted.
 -- Assumes nothing.
 use Prim.Native.Nat.{ℕ, zero, suc, _+_, _≤_, _<_}
-use mathlib.Core.Path.{_≡_, refl, sym, ap, ap₂, subst, _∙_}
-use mathlib.Core.Bool.{Bool, true, false, cond, _||_}
+use mathlib.Core.Path.{_≡_, refl, sym, ap, subst, _∙_}
+use mathlib.Core.Bool.{true, cond}
 use mathlib.Core.List.{List, [], _∷_}
 use mathlib.Core.Option.{some}
-use native.Mathlib.Nat.{le-refl, lt-of-not-le}
-use native.Mathlib.Decide.{decLe}
 use native.Mathlib.Omega.{arith}
-use lib.Dec.{eqb, ltb}
+use lib.Dec.{eqb}
 use lib.ListN.{length, take}
-use borrow.Author.Tests.{eqb-true, eq-eqb, ne-eqb, lt-ltb, le-ltb, ltb-true}
-use Rattle.slices.specs.Slices.{_!_, tabulate, zeros}
+use borrow.Author.Tests.{eq-eqb, ne-eqb, lt-ltb, le-ltb}
+use Rattle.slices.specs.Slices.{_!_, zeros}
 use Rattle.slices.proofs.Tabulate.{tabulate-at}
-use Rattle.refusal.proofs.Refusals.{first-zero, later-zero, test-holds, both-zero, unless-holds}
-use Rattle.field.specs.Vector.{vector, held, allBelow}
-use Rattle.system.specs.System.{qOf, nOf, mOf, systemRefusal, lentRefusal, F}
+use Rattle.refusal.proofs.Refusals.{first-zero, both-zero, unless-holds}
+use Rattle.field.specs.Vector.{held}
+use Rattle.system.specs.System.{qOf, nOf, mOf, systemRefusal, lentRefusal}
 use Rattle.system.proofs.SystemLayout.{at-all-below, sizes-has}
-use Rattle.scheme.specs.Scheme.{isScheme, challenges, commitmentsLength, vectorsLength, replyLength}
+use Rattle.scheme.specs.Scheme.{challenges, commitmentsLength, vectorsLength, replyLength}
 use Rattle.record.specs.Record.{Elements}
-use Rattle.protocol.specs.Rounds.{IsX}
-use Rattle.exchange.specs.Messages.{accepts}
-use Rattle.honest.proofs.Honest.{Lends, honest-three, honest-five, honest-three-held, honest-five-held}
-use Rattle.session_state.specs.State.{stateRefusal, nextCount}
+use Rattle.session_state.specs.State.{nextCount}
 use Rattle.session_state.specs.declared.Verdict.the-variants.{Accepted}
 use Rattle.session_state.proofs.States.{state-due, due-state, count-below}
 use Rattle.carrier.specs.declared.session.CarrierPhase.{CarrierPhase}
 use Rattle.carrier.specs.declared.session.CarrierPhase.the-variants.{TakeCommitments, SetAlpha, TakeMiddle, SetChallenge, TakeReply}
 use Rattle.carrier.specs.declared.session.Carrier.{Carrier}
-use Rattle.carrier.specs.Carrier.{phaseNumber, closedCarrier, carrierWith, heldMiddle, openedCarrier, commitmentsRefusal, withCommitments, alphaRefusal, withAlpha, middleRefusal, withMiddle, challengeRefusal, withChallenge, replyRefusal, acceptsReply, judgedCarrier}
-use Rattle.session.specs.Session.{Opening, Given, Asked, World, Middle, none-sent, sent, put, carrierMoves}
-use Rattle.session.proofs.Logs.{Clear, none-given, same-message, put-there, put-stays, put-clear, clear-next, given-before}
+use Rattle.carrier.specs.Carrier.{phaseNumber, closedCarrier, carrierWith, heldMiddle, openedCarrier, commitmentsRefusal, withCommitments, alphaRefusal, withAlpha, middleRefusal, withMiddle, challengeRefusal, withChallenge, replyRefusal, judgedCarrier}
+use Rattle.session.specs.Session.{Opening, Given, Asked, World, put, carrierMoves}
+use Rattle.session.proofs.Logs.{Clear, put-there, put-stays, put-clear, clear-next}
 use Rattle.session.proofs.CardSide.{by-scheme}
 use Rattle.session.proofs.States as St
-use Rattle.session.proofs.States.{AskedStays, Link, CardState, CarrierState, Past, past-stays, card-stays, given-same, asked-same}
+use Rattle.session.proofs.States.{AskedStays, Link, CarrierState, past-stays, card-stays, given-same, asked-same}
 
 module _ (o : Opening) where
   -- ---- the carrier's sessions

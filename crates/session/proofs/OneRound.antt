@@ -2,14 +2,10 @@
 -- one behind the other, are an honest list of which none is refused. Assumes nothing.
 use Prim.Native.Nat.{ℕ, _+_, _<_}
 use mathlib.Core.Path.{_≡_, refl, sym, ap, subst, _∙_}
-use mathlib.Core.Bool.{true}
 use mathlib.Core.List.{List, [], _∷_}
 use mathlib.Core.Option.{some}
-use native.Mathlib.Omega.{arith}
 use lib.ListN.{length, take}
-use Rattle.refusal.specs.Refusal.{kept}
 use Rattle.refusal.proofs.Refusals.{kept-accepted}
-use Rattle.field.specs.Vector.{allBelow}
 use Rattle.system.specs.System.{qOf, nOf, mOf}
 use Rattle.system.proofs.SystemLayout.{all-below-at, at-all-below}
 use Rattle.scheme.specs.Scheme.{challenges, commitmentsLength, vectorsLength, rhosLength, replyLength}
@@ -18,7 +14,7 @@ use Rattle.honest.proofs.Honest.{Lends, three-commitments-long, three-reply-lon
 use Rattle.card.specs.Card as CardCalls
 use Rattle.card.specs.Card.{phaseNumber, openedCard, committedCard, cardWith, sentCommitments, sentReply, openRefusal}
 use Rattle.carrier.specs.Carrier as CarrierCalls
-use Rattle.session.specs.Session.{Opening, Call, commit, reply, takeCommitments, setChallenge, takeReply, World, put, opened, refusal, effect, step, Unaltered, Honest, Due, after}
+use Rattle.session.specs.Session.{Opening, Call, commit, reply, takeCommitments, setChallenge, takeReply, World, opened, refusal, effect, step, Unaltered, Honest, Due}
 use Rattle.session.proofs.States as St
 use Rattle.session.proofs.States.{Link}
 use Rattle.card.specs.declared.session.CardPhase.the-variants.{Reply}

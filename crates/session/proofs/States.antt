@@ -1,8 +1,8 @@
 -- The states of both ends along an honest session: what each session is, and what has been given, by the call that is due. Assumes nothing.
 use Prim.Native.Nat.{ℕ, _+_, _≤_, _<_}
-use mathlib.Core.Path.{_≡_, refl, sym, ap, _∙_}
+use mathlib.Core.Path.{_≡_}
 use mathlib.Core.Bool.{cond}
-use mathlib.Core.List.{List, [], _∷_}
+use mathlib.Core.List.{List, []}
 use mathlib.Core.Option.{some}
 use lib.Dec.{eqb}
 use Rattle.field.specs.Vector as Vector
@@ -21,7 +21,7 @@ use Rattle.carrier.specs.declared.session.CarrierPhase.{CarrierPhase}
 use Rattle.carrier.specs.declared.session.CarrierPhase.the-variants.{TakeCommitments, SetAlpha, TakeMiddle, SetChallenge, TakeReply}
 use Rattle.carrier.specs.declared.session.Carrier.{Carrier}
 use Rattle.carrier.specs.Carrier as CarrierCalls
-use Rattle.session.specs.Session.{Opening, Log, Given, Asked, World}
+use Rattle.session.specs.Session.{Opening, Given, Asked, World}
 use Rattle.session.proofs.Logs.{Clear, Stays}
 
 module _ (o : Opening) where

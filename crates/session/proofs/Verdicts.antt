@@ -1,32 +1,26 @@
 -- Every reply of an honest session that the carrier takes is accepted. Assumes nothing.
-use Prim.Native.Nat.{ℕ, zero, suc, _+_, _≤_, _<_}
-use mathlib.Core.Path.{_≡_, refl, sym, ap, ap₂, _∙_}
-use mathlib.Core.Bool.{Bool, true, cond, _||_}
+use Prim.Native.Nat.{ℕ, _+_, _≤_, _<_}
+use mathlib.Core.Path.{_≡_, sym, ap₂, _∙_}
+use mathlib.Core.Bool.{true}
 use mathlib.Core.List.{List, [], _∷_}
 use mathlib.Core.Option.{some}
 use native.Mathlib.Nat.{lt-of-not-le}
 use native.Mathlib.Decide.{decLe}
 use native.Mathlib.Omega.{arith}
-use lib.Dec.{eqb}
-use lib.ListN.{length}
 use borrow.Author.Tests.{eqb-true, ne-eqb}
-use Rattle.slices.specs.Slices.{_!_, tabulate, zeros}
 use Rattle.refusal.proofs.Refusals.{first-zero}
-use Rattle.field.specs.Vector.{vector, held}
+use Rattle.field.specs.Vector.{held}
 use Rattle.system.specs.System.{nOf, mOf, systemRefusal, F}
 use Rattle.scheme.specs.Scheme.{isScheme, challenges}
 use Rattle.protocol.specs.Rounds.{IsX}
-use Rattle.exchange.specs.Messages.{accepts, threeCommitments, fiveCommitments, middleBytes, replyThreeBytes, replyFiveBytes}
+use Rattle.exchange.specs.Messages.{accepts, threeCommitments, fiveCommitments, replyThreeBytes, replyFiveBytes}
 use Rattle.exchange.specs.Card.{threeCommitted, threeReplied, fiveCommitted}
-use Rattle.honest.proofs.Honest.{Lends, fiveMiddle, fiveReplied, honest-three, honest-five, honest-three-held, honest-five-held}
+use Rattle.honest.proofs.Honest.{fiveReplied, honest-three, honest-five, honest-three-held, honest-five-held}
 use Rattle.session_state.proofs.States.{state-due}
-use Rattle.carrier.specs.declared.session.Carrier.{Carrier}
-use Rattle.carrier.specs.declared.session.CarrierPhase.the-variants.{TakeReply}
 use Rattle.carrier.specs.Carrier.{carrierWith, heldMiddle, openedCarrier, replyRefusal, acceptsReply, judgedCarrier}
 use Rattle.card.specs.Card as CardCalls
 use Rattle.session.specs.Session.{Opening, Given, Asked, World, Middle, none-sent, sent, carrierMoves}
-use Rattle.session.proofs.Logs.{Clear, none-given, same-message, given-before}
-use Rattle.session.proofs.CardSide.{by-scheme}
+use Rattle.session.proofs.Logs.{Clear, same-message, given-before}
 use Rattle.session.proofs.CarrierSide.{ReplyDue, known-at, Known, moved, judged-next, judged-last}
 use Rattle.session.proofs.States as St
 use Rattle.session.proofs.States.{Link, CardState, Past, asked-same}

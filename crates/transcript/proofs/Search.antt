@@ -5,7 +5,6 @@ use mathlib.Core.Bool.{Bool, true, false, cond}
 use mathlib.Core.Logic.{⊎-elim}
 use native.Mathlib.Nat.{not-suc-le-zero, eq-or-lt-of-le, le-of-suc-le-suc, le-refl}
 use native.Mathlib.Omega.{arith}
-use Rattle.refusal.specs.Refusal.{_orElse_}
 use Rattle.refusal.proofs.Refusals.{first-zero, later-zero, both-zero, first-decides, later-decides}
 use Rattle.transcript.specs.Transcript.{firstWhere}
 

@@ -1,6 +1,6 @@
 -- No bytes are held. Assumes nothing.
 use Prim.Native.Nat.{ℕ}
-use mathlib.Core.Path.{_≡_, refl, sym, _∙_}
+use mathlib.Core.Path.{_≡_, refl}
 use mathlib.Core.List.{[]}
 use lib.ListN.{replicate, length-replicate, getD-replicate}
 use Rattle.slices.specs.Slices.{_!_}

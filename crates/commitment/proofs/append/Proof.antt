@@ -1,11 +1,11 @@
 -- At most 96 bytes are put behind the string. Assumes nothing.
-use Prim.Native.Nat.{ℕ, _≤_, min}
+use Prim.Native.Nat.{ℕ}
 use mathlib.Core.Path.{_≡_, sym, ap, _∙_}
 use mathlib.Core.List.{List, _++_}
 use native.Mathlib.Omega.{arith}
 use lib.ListN.{length, take, length-append}
 use lib.Seq.{length-take-le}
-use Rattle.commitment.specs.Held.{held, text}
+use Rattle.commitment.specs.Held.{held}
 use Rattle.commitment.proofs.HeldStrings.{held-put, same-text, text-bytes, text-len, take-vector}
 use borrow.Author.Needs.{needs}
 use Rattle.commitment.proofs.append.Statement.{statement}

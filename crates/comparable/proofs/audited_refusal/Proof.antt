@@ -1,5 +1,5 @@
 -- The reading taken apart: its refusal is passed on. Assumes nothing.
-use mathlib.Core.Path.{_≡_, refl, sym, ap, _∙_}
+use mathlib.Core.Path.{_≡_, sym, ap, _∙_}
 use Prim.Native.Nat.{ℕ}
 use native.Mathlib.Omega.{arith}
 use mathlib.Core.List.{List}
@@ -8,7 +8,7 @@ use Rattle.record.specs.declared.layout.Layout.{Layout}
 use Rattle.record.specs.declared.reader.Reading.{Reading}
 use Rattle.record.specs.declared.reader.Reading.the-variants.{Good, Refused}
 use Rattle.record.specs.Record.{layoutOf}
-use Rattle.record.specs.Reader.{headerIn, recordRefusal, refusalOf, readingOf}
+use Rattle.record.specs.Reader.{recordRefusal, refusalOf, readingOf}
 use Rattle.record.proofs.Readings.{reading-good, reading-number, good-not-refused, good-layout}
 use Rattle.refusal.specs.Refusal.{unless}
 use Rattle.refusal.proofs.Refusals.{first-decides, later-decides}

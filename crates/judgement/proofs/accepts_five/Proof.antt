@@ -1,5 +1,4 @@
 -- The one opening is held to its commitment, by cases on the challenge. Assumes nothing.
-use mathlib.Core.Path.{_≡_}
 use borrow.Author.Tests.{ne-eqb}
 use Rattle.round.specs.FivePass.{acceptsFive}
 use Rattle.judgement.proofs.Openings.{judged}

@@ -1,5 +1,5 @@
 -- Both openings are held to their commitments, by cases on the challenge. Assumes nothing.
-use mathlib.Core.Path.{_≡_, ap₂, _∙_}
+use mathlib.Core.Path.{ap₂, _∙_}
 use mathlib.Core.Bool.{_&&_}
 use borrow.Author.Tests.{ne-eqb}
 use Rattle.round.specs.Pieces.{commitment}

@@ -1,10 +1,8 @@
 -- One branch: what is refused stays, else the record is written. Assumes nothing.
 use Prim.Native.Nat.{ℕ, _+_}
 use mathlib.Core.Path.{_≡_, refl, sym, _∙_}
-use mathlib.Core.List.{List}
 use native.Mathlib.Omega.{arith}
 use lib.ListN.{length}
-use Rattle.refusal.specs.Refusal.{kept}
 use Rattle.refusal.proofs.Refusals.{kept-refused, kept-accepted}
 use Rattle.record.specs.Record.{Fields, recordLength}
 use Rattle.record_writer.specs.Writer.{writeRefusal}

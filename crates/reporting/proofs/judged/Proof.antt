@@ -1,5 +1,5 @@
 -- A line a round, and the count of those that are accepted. Assumes nothing.
-use Prim.Native.Nat.{ℕ, _-_, _+_, _*_, _≤_}
+use Prim.Native.Nat.{_-_, _+_, _≤_}
 use mathlib.Core.Path.{_≡_, ap}
 use native.Mathlib.Omega.{arith}
 use lib.ListN.{length}

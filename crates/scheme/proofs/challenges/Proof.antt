@@ -1,5 +1,4 @@
 -- By cases on the scheme. Assumes nothing.
-use native.Mathlib.Omega.{arith}
 use borrow.Author.Tests.{ne-eqb}
 use Rattle.scheme.specs.Scheme.{challenges}
 use Rattle.scheme.proofs.challenges.Statement.{statement}

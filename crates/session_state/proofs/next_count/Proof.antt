@@ -1,6 +1,4 @@
 -- By whether there is room for one more. Assumes nothing.
-use Prim.Native.Nat.{ℕ, _+_, min, _≤_, _<_}
-use mathlib.Core.Path.{_≡_}
 use native.Mathlib.Omega.{arith}
 use Rattle.session_state.specs.State.{nextCount}
 use borrow.Author.Needs.{needs}

@@ -1,6 +1,6 @@
 -- The loop's invariant: the first i places are filled. Assumes nothing.
 use Prim.Native.Nat.{_+_, _-_}
-use mathlib.Core.Path.{_≡_, refl}
+use mathlib.Core.Path.{refl}
 use native.Mathlib.Omega.{arith}
 use Rattle.slices.specs.Slices.{_!_, tabulate}
 use Rattle.slices.proofs.Tabulate.{Filled, fill-more, filled}

@@ -1,5 +1,4 @@
 -- The callees' answers, put together. Assumes nothing.
-use Rattle.record.specs.Record.{layoutOf}
 use Rattle.record.specs.Reader.{fieldsIn}
 use Rattle.transcript.specs.Transcript.{keyVector}
 use borrow.Author.Needs.{needs}

@@ -1,8 +1,7 @@
 -- The count of the rounds that are accepted, one more in each turn. Assumes nothing.
 use Prim.Native.Nat.{ℕ, _-_, _+_, _≤_}
-use mathlib.Core.Path.{_≡_, sym, ap, _∙_}
+use mathlib.Core.Path.{_≡_, ap, _∙_}
 use mathlib.Core.Bool.{Bool, true, false, cond}
-use mathlib.Core.List.{List}
 use mathlib.Core.Logic.{⊎-elim}
 use native.Mathlib.Omega.{arith}
 use Rattle.record.specs.declared.layout.Header.{Header}

@@ -1,5 +1,5 @@
 -- Refused, or all rounds judged. Assumes nothing.
-use mathlib.Core.Path.{_≡_, refl, sym, _∙_}
+use mathlib.Core.Path.{refl, sym, _∙_}
 use Rattle.refusal.proofs.Refusals.{first-zero, kept-refused, kept-accepted}
 use Rattle.bench_entries.specs.Bench.{judgeRefusal}
 use borrow.Author.Needs.{needs}

@@ -1,9 +1,7 @@
 -- What is refused stays, else t1 and e1 are written. Assumes nothing.
-use mathlib.Core.Path.{_≡_, refl, sym, ap, ap₂, _∙_}
-use native.Mathlib.Omega.{arith}
+use mathlib.Core.Path.{sym, _∙_}
 use Rattle.refusal.specs.Refusal.{kept}
 use Rattle.refusal.proofs.Refusals.{kept-refused}
-use Rattle.system.specs.System.{nOf, mOf}
 use Rattle.system.proofs.SystemLayout.{accepted, has-sizes}
 use Rattle.exchange.specs.Messages.{middleBytes}
 use Rattle.card.specs.Card.{answeredCard, sentMiddle}

@@ -1,5 +1,5 @@
 -- What is refused stays, else the commitments of the scheme are written. Assumes nothing.
-use mathlib.Core.Path.{_≡_, refl, sym, _∙_}
+use mathlib.Core.Path.{refl, sym, _∙_}
 use Rattle.refusal.proofs.Refusals.{kept-refused, kept-accepted}
 use Rattle.card.proofs.Taken.{commit-taken}
 use Rattle.card.proofs.Steps.{committed-three, committed-five, sent-three, sent-five, three-commitments, five-commitments}

@@ -1,8 +1,7 @@
 -- The callees' answers, put together. Assumes nothing.
-use mathlib.Core.Path.{_≡_, ap}
+use mathlib.Core.Path.{ap}
 use mathlib.Core.List.{List}
 use Prim.Native.Nat.{ℕ}
-use native.Mathlib.Omega.{arith}
 use Rattle.protocol.specs.Protocols as P
 use Rattle.exchange.specs.Card.{threeVectors, threeCommitted}
 use borrow.Author.Needs.{needs}

@@ -1,6 +1,4 @@
 -- By whether a round is left. Assumes nothing.
-use Prim.Native.Nat.{ℕ, _<_, _≤_}
-use mathlib.Core.Path.{_≡_, subst}
 use borrow.Author.Tests.{lt-ltb, le-ltb}
 use Rattle.slices.specs.Slices.{zeros}
 use Rattle.card.specs.Card.{nextCard, repliedCard}

@@ -1,5 +1,5 @@
 -- What is refused stays, else the reply is written and the round forgotten. Assumes nothing.
-use mathlib.Core.Path.{_≡_, refl, sym, _∙_}
+use mathlib.Core.Path.{refl, sym, _∙_}
 use Rattle.refusal.proofs.Refusals.{kept-refused, kept-accepted}
 use Rattle.card.proofs.Taken.{reply-taken}
 use borrow.Author.Needs.{needs}

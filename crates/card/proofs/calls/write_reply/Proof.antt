@@ -1,5 +1,5 @@
 -- The reply of the scheme, its lengths from the sizes. Assumes nothing.
-use mathlib.Core.Path.{_≡_, _∙_}
+use mathlib.Core.Path.{_∙_}
 use borrow.Author.Tests.{ne-eqb}
 use Rattle.system.proofs.SystemLayout.{sizes}
 use Rattle.card.specs.Card.{sentReply}

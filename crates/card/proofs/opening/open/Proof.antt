@@ -1,5 +1,5 @@
 -- A closed session where it is refused, else an open one. Assumes nothing.
-use mathlib.Core.Path.{_≡_, refl, sym, ap, _∙_}
+use mathlib.Core.Path.{refl, sym, _∙_}
 use Rattle.refusal.proofs.Refusals.{kept-refused, kept-accepted}
 use borrow.Author.Needs.{needs}
 use Rattle.card.proofs.opening.open.Statement.{statement}

@@ -1,19 +1,16 @@
 -- The loop's invariant: the rows of the triangle before i are filled, and row i starts at `at`. Assumes nothing.
-use Prim.Native.Nat.{ℕ, _+_, _-_, _*_, _≤_, _<_}
+use Prim.Native.Nat.{ℕ, _+_, _-_, _≤_}
 use mathlib.Core.Path.{_≡_, refl, sym, ap, _∙_}
-use mathlib.Core.List.{List}
 use native.Mathlib.Nat.{not-suc-le-zero}
 use native.Mathlib.Numerals.{add-one}
 use native.Mathlib.Omega.{arith}
-use lib.ListN.{length, take, drop}
+use lib.ListN.{length, take}
 use lib.Seq.{length-take-le, getD-take}
 use borrow.Author.Needs.{needs}
-use Rattle.slices.specs.Slices.{_!_}
 use Rattle.slices.proofs.Parts.{length-part, copied-at}
 use borrow.Rule.Slice.PartMut.{same-len-mid}
 use Rattle.field.specs.Ops.{ops}
 use Rattle.system.specs.System.{triangle}
-use Rattle.evaluation.specs.Monomials.{monomial, Monomials}
 use Rattle.evaluation.proofs.Triangle.{Rows, rows-step, rows-end}
 use Rattle.system.proofs.SystemLayout.{triangle-next, triangle-bound}
 use Rattle.evaluation.proofs.polynomials.monomials.Statement.{statement}

@@ -1,6 +1,6 @@
 -- The loop's invariant: the first l polynomials are done, and the next one's coefficients start at `at`. Assumes nothing.
 use Prim.Native.Nat.{ℕ, _+_, _-_, _*_, _≤_, _<_}
-use mathlib.Core.Path.{_≡_, refl, sym, ap, _∙_}
+use mathlib.Core.Path.{_≡_, refl, ap, _∙_}
 use mathlib.Core.List.{List}
 use native.Mathlib.Nat.{mul-le-mul-right}
 use native.Mathlib.Omega.{arith}
@@ -13,7 +13,7 @@ use Rattle.field.specs.Vector.{sum, vector}
 use Rattle.field.proofs.Fields.{field}
 use Rattle.field.proofs.Sums.{sum-cong}
 use Rattle.field.proofs.Vectors.{vector-start, vector-step, vector-end}
-use Rattle.system.specs.System.{qOf, nOf, mOf, opsOf, width, systemRefusal}
+use Rattle.system.specs.System.{qOf, nOf, mOf, opsOf, width}
 use Rattle.evaluation.specs.Monomials.{timesRow}
 use Rattle.system.proofs.SystemLayout.{Accepted, accepted, width-bound}
 use Rattle.evaluation.proofs.polynomials.products.Statement.{statement}

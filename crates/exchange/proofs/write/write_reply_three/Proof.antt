@@ -1,7 +1,7 @@
 -- Each piece behind the last, to the end. Assumes nothing.
 use Prim.Native.Nat.{_+_}
-use mathlib.Core.Path.{_≡_, refl}
-use mathlib.Core.List.{_++_, []}
+use mathlib.Core.Path.{refl}
+use mathlib.Core.List.{[]}
 use native.Mathlib.Omega.{arith}
 use lib.ListN.{take}
 use Rattle.slices.proofs.Parts.{placed-next, placed-all}

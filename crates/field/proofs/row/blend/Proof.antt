@@ -1,5 +1,4 @@
 -- The sum of two products. Assumes nothing.
-use Rattle.field.specs.Ops.{ops}
 use borrow.Author.Needs.{needs}
 use Rattle.field.proofs.row.blend.Statement.{statement}
 use Rattle.field.proofs.row.blend.Tie as tie

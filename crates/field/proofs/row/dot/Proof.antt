@@ -1,6 +1,6 @@
 -- The remainder of the sum of the products is the field's sum; by 2 it is the last bit. Assumes nothing.
 use Prim.Native.Nat.{ℕ, _%_}
-use mathlib.Core.Path.{_≡_, ap, _∙_}
+use mathlib.Core.Path.{ap, _∙_}
 use lib.ListN.{length}
 use Rattle.field.specs.Row.{products}
 use Rattle.field.proofs.Rows.{products-sum}

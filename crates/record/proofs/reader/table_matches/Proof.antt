@@ -1,5 +1,5 @@
 -- All 24 bytes are compared with the table's. Assumes nothing.
-use mathlib.Core.Path.{_≡_, sym, ap₂, _∙_}
+use mathlib.Core.Path.{sym, ap₂, _∙_}
 use native.Mathlib.Omega.{arith}
 use lib.Seq.{take-all}
 use Rattle.slices.specs.Slices.{same}

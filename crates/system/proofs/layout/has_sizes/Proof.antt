@@ -1,5 +1,5 @@
 -- By cases on each comparison. Assumes nothing.
-use mathlib.Core.Path.{_≡_, sym, _∙_}
+use mathlib.Core.Path.{sym, _∙_}
 use borrow.Author.Tests.{eq-eqb, ne-eqb}
 use Rattle.system.specs.System.{hasSizes}
 use borrow.Author.Needs.{needs}
