@@ -30,8 +30,8 @@ pub fn groups() -> Vec<Group> {
     ]
 }
 
-fn group(name: &str, cases: Vec<Call>) -> Group {
-    let name = name.to_string();
+fn group(topic: &str, cases: Vec<Call>) -> Group {
+    let name = format!("SHA-256, {topic}");
     Group { name, cases }
 }
 

@@ -1,4 +1,4 @@
-//! The stored test vectors: a file of groups of cases for each program that runs them.
+//! The stored test vectors: one file of all single calls, and one of the sessions' calls.
 //!
 //! The format is documented in README.md. Expected answers are those of `entries` and `rounds`.
 
@@ -58,16 +58,36 @@ pub fn stored() -> Vec<Stored> {
 
 /// The vector file of each program.
 pub fn files() -> Vec<ProgramFile> {
-    vec![
-        file("sha256_vectors", &hash::groups()),
-        file("system_vectors", &system_groups()),
-        file("round_vectors", &round_groups()),
-        file("simulator_vectors", &simulation::groups()),
-        file("record_vectors", &record_groups()),
-        file("report_vectors", &reporting::groups()),
-        sessions::file(),
-        file("audit_vectors", &auditing::groups()),
+    vec![calls_file(), sessions::file()]
+}
+
+/// The cases of all calls but the sessions', each of which stands by itself.
+fn calls_file() -> ProgramFile {
+    let groups = call_groups();
+    ProgramFile {
+        program: "vectors",
+        stdin: encode(&groups),
+        stdout: agreement(&groups),
+    }
+}
+
+fn call_groups() -> Vec<Group> {
+    [
+        hash::groups(),
+        system_check::groups(),
+        maps::groups(),
+        honest::groups(),
+        forged::groups(),
+        simulation::judged_groups(),
+        simulation::groups(),
+        reading::groups(),
+        writing::groups(),
+        reporting::groups(),
+        auditing::groups(),
     ]
+    .into_iter()
+    .flatten()
+    .collect()
 }
 
 /// The report program's own: document 01's printed case, which is no vector file.
@@ -77,40 +97,6 @@ pub fn printed_case() -> ProgramFile {
         program: "report",
         stdout: report(&stdin),
         stdin,
-    }
-}
-
-/// The check of a system's bytes, then F and G.
-fn system_groups() -> Vec<Group> {
-    let mut groups = system_check::groups();
-    groups.extend(maps::groups());
-    groups
-}
-
-/// Honest rounds, rounds that are not, and simulated ones.
-fn round_groups() -> Vec<Group> {
-    [
-        honest::groups(),
-        forged::groups(),
-        simulation::judged_groups(),
-    ]
-    .into_iter()
-    .flatten()
-    .collect()
-}
-
-/// Records read, then written.
-fn record_groups() -> Vec<Group> {
-    let mut groups = reading::groups();
-    groups.extend(writing::groups());
-    groups
-}
-
-fn file(program: &'static str, groups: &[Group]) -> ProgramFile {
-    ProgramFile {
-        program,
-        stdin: encode(groups),
-        stdout: agreement(groups),
     }
 }
 

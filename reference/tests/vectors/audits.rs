@@ -3,7 +3,7 @@
 
 use crate::records::refusal;
 use crate::reports::session;
-use crate::stored::{groups, made, Case};
+use crate::stored::{cases, Case};
 use reference::audit::Finding;
 use reference::entries::check;
 use reference::field::ORDERS;
@@ -44,12 +44,7 @@ pub fn laid_out(finding: &Finding) -> (u8, Vec<u8>) {
 
 /// The stored audits of both schemes: of three passes, then of five.
 fn audits() -> [Vec<Case>; 2] {
-    let mut files = made().iter();
-    let file = files.find(|file| file.program == "audit_vectors");
-    let groups = groups(file.expect("a file")).into_iter();
-    let cases = groups.flat_map(|(_, cases)| cases);
-    let (three, five) = cases.partition(|case| case.kind == 22);
-    [three, five]
+    [cases(22), cases(23)]
 }
 
 impl Case {

@@ -8,7 +8,7 @@ use reference::session::Verdict;
 use reference::sha256::sha256;
 use reference::vectors::ProgramFile;
 
-pub const PROGRAM: &str = "session_vectors";
+const PROGRAM: &str = "session_vectors";
 
 /// Both sessions, and for each call its line.
 struct Table {

@@ -13,14 +13,10 @@ struct Reader<'a> {
     left: &'a [u8],
 }
 
-/// The groups of a file in order: their names and cases.
-pub fn groups(file: &ProgramFile) -> Vec<(String, Vec<Case>)> {
+/// The groups of a file in order, read one at a time: their names and cases.
+pub fn groups(file: &ProgramFile) -> impl Iterator<Item = (String, Vec<Case>)> + '_ {
     let mut reader = Reader { left: &file.stdin };
-    let mut groups = Vec::new();
-    while !reader.left.is_empty() {
-        groups.push(reader.group());
-    }
-    groups
+    std::iter::from_fn(move || (!reader.left.is_empty()).then(|| reader.group()))
 }
 
 /// The stored cases of a kind.
