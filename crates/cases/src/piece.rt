@@ -35,19 +35,17 @@ pub struct Loaded {
     pub next: usize,
 }
 
+// A piece of one byte.
+pub struct Byte {
+    pub value: u8,
+    pub next: usize,
+}
+
 // A piece of at most 512 bytes.
 pub struct Small {
     pub bytes: [u8; 512],
     pub length: usize,
     pub next: usize,
-}
-
-// Zeros for a whole file. A longer one is cut short, and its report then lacks cases. The `ensures`
-// gives only the length, which lending the array as a slice needs.
-pub fn file_buffer() -> [u8; 1048576]
-    ensures { λ r. ⌜ 1048576 ≡ length r ⌝ }
-{
-    [0; 1048576]
 }
 
 // The head of the case at `at`; kind 255, which no entry has, if it is not whole there.
@@ -104,6 +102,26 @@ pub fn load_small(file: &[u8], at: usize) -> Small
         length: loaded.length,
         next: loaded.next,
     }
+}
+
+// A piece of one byte. One of another length answers zeros.
+pub fn load_byte(file: &[u8], at: usize) -> Byte {
+    let piece = load_small(file, at);
+    if piece.length != 1 {
+        return Byte { value: 0, next: 0 };
+    }
+    Byte {
+        value: piece.bytes[0],
+        next: piece.next,
+    }
+}
+
+// The first bytes of an output's buffer: those of the output expected.
+pub fn front(buffer: &mut [u8], length: usize) -> &mut [u8] {
+    if buffer.len() <= length {
+        return buffer;
+    }
+    &mut buffer[..length]
 }
 
 // Makes every byte of an output the case's fill.
@@ -177,6 +195,20 @@ pub fn number(file: &[u8], at: usize) -> usize
         + 256 * wide(file[at + 1])
         + 65536 * wide(file[at + 2])
         + 16777216 * wide(file[at + 3])
+}
+
+// A number as four bytes, the lowest first.
+pub fn number_bytes(number: usize) -> [u8; 4] {
+    [
+        low(number),
+        low(number / 256),
+        low(number / 65536),
+        low(number / 16777216),
+    ]
+}
+
+fn low(number: usize) -> u8 {
+    (number % 256) as u8
 }
 
 pub fn wide(byte: u8) -> usize

@@ -15,6 +15,14 @@ pub struct Outcome {
     pub agrees: bool,
 }
 
+// How a case went that is malformed.
+pub fn malformed() -> Outcome {
+    Outcome {
+        next: 0,
+        agrees: false,
+    }
+}
+
 // How a case with an output went, from the output expected and the whole output buffer.
 pub fn compared(expected: Small, number_agrees: bool, out: [u8; 512]) -> Outcome
     ensures { λ r. ⌜ (r .agrees ≡ true → SameStart out (expected .bytes) (expected .length)) ⌝ }
@@ -69,7 +77,7 @@ pub fn after(file: &[u8], run: Run, outcome: Outcome) -> Run {
     let left = run.left;
     let next = outcome.next;
     if next <= at || file.len() < next || left == 0 {
-        return malformed(file, at);
+        return stopped(file, at);
     }
     let group = counted(run.group, outcome.agrees);
     let total = counted(run.total, outcome.agrees);
@@ -77,7 +85,7 @@ pub fn after(file: &[u8], run: Run, outcome: Outcome) -> Run {
     let name_end = run.name_end;
     if 1 < left {
         if next == file.len() {
-            return malformed(file, next);
+            return stopped(file, next);
         }
         return Run {
             at: next,
@@ -103,17 +111,17 @@ pub fn after(file: &[u8], run: Run, outcome: Outcome) -> Run {
 // The run at the group that starts at `at`, which has at least one case.
 fn open(file: &[u8], at: usize, total: Tally) -> Run {
     if file.len() <= at {
-        return malformed(file, at);
+        return stopped(file, at);
     }
     let name = at + 1;
     let length = wide(file[at]);
     if file.len() - name <= length + 4 {
-        return malformed(file, at);
+        return stopped(file, at);
     }
     let name_end = name + length;
     let left = number(file, name_end);
     if left == 0 {
-        return malformed(file, at);
+        return stopped(file, at);
     }
     Run {
         at: name_end + 4,
@@ -126,7 +134,7 @@ fn open(file: &[u8], at: usize, total: Tally) -> Run {
 }
 
 // Says where the file is malformed, and ends the run.
-fn malformed(file: &[u8], at: usize) -> Run {
+fn stopped(file: &[u8], at: usize) -> Run {
     io::write_all(STDOUT_FILENO, b"malformed at byte ");
     io::print_decimal(STDOUT_FILENO, at as u64);
     io::write_all(STDOUT_FILENO, b"\n");

@@ -1,65 +1,61 @@
 // Cases of the reader: its answer as 30 bytes, the header, then offset and length of each body.
-ghost use Prim.Native.Nat.{_≤_, _<_};
+use cases::Head;
 use cases::Outcome;
 use cases::Small;
+use cases::number_bytes;
 use record::Body;
 use record::Layout;
 use record::Reading;
+use slices::equal;
+use slices::part;
 
-// How many bytes an answer has.
+// How many bytes an answer has, and how many of them a body's entry.
 const ANSWER: usize = 30;
 
-pub fn read_case(file: &[u8], at: usize, buffer: &mut [u8]) -> Outcome {
-    let head = cases::head_at(file, at);
+const ENTRY: usize = 8;
+
+pub fn read_case(file: &[u8], head: Head, buffer: &mut [u8]) -> Outcome {
     let piece = cases::load(file, head.next, buffer);
-    let length = piece.length;
     let expected = cases::load_small(file, piece.next);
-    let reading = record::read(&buffer[..length]);
-    match reading {
-        Reading::Good(layout) => answered(expected, head.number == 0, bytes_of(layout)),
-        Reading::Refused(number) => answered(expected, number == head.number, [head.fill; 512]),
+    let reading = record::read(part(buffer, 0, piece.length));
+    let agrees = match reading {
+        Reading::Good(layout) => head.number == 0 && is_layout(layout, expected),
+        Reading::Refused(number) => head.number == number && is_filled(head.fill, expected),
+    };
+    Outcome {
+        next: expected.next,
+        agrees,
     }
 }
 
-fn answered(expected: Small, number_agrees: bool, out: [u8; 512]) -> Outcome {
-    let whole = expected.length == ANSWER;
-    cases::compared(expected, number_agrees && whole, out)
+// Is the answer expected the one left as it was?
+fn is_filled(fill: u8, expected: Small) -> bool {
+    let bytes = expected.bytes;
+    equal(&[fill; 30], part(&bytes, 0, expected.length))
 }
 
-fn bytes_of(layout: Layout) -> [u8; 512] {
+// Is the answer expected that of a layout?
+fn is_layout(layout: Layout, expected: Small) -> bool {
     let header = layout.header;
-    let mut out = [0u8; 512];
-    out[0] = layout.edition;
-    out[1] = header.scheme;
-    out[2] = header.q;
-    out[3] = header.n;
-    out[4] = header.m;
-    out[5] = header.rounds;
-    let with_key = with_body(out, 6, layout.key);
-    let with_commitments = with_body(with_key, 14, layout.commitments);
-    with_body(with_commitments, 22, layout.exchanges)
+    let bytes = expected.bytes;
+    let numbers = [
+        layout.edition,
+        header.scheme,
+        header.q,
+        header.n,
+        header.m,
+        header.rounds,
+    ];
+    expected.length == ANSWER
+        && equal(&numbers, part(&bytes, 0, 6))
+        && is_entry(layout.key, part(&bytes, 6, ENTRY))
+        && is_entry(layout.commitments, part(&bytes, 14, ENTRY))
+        && is_entry(layout.exchanges, part(&bytes, 22, ENTRY))
 }
 
-// Offset and length put in.
-fn with_body(out: [u8; 512], at: usize, body: Body) -> [u8; 512]
-    requires { ⌜ at ≤ 504 ⌝ }
-{
-    let with_offset = with_number(out, at, body.offset);
-    with_number(with_offset, at + 4, body.length)
-}
-
-// A number put in, four bytes, the lowest first.
-fn with_number(out: [u8; 512], at: usize, number: usize) -> [u8; 512]
-    requires { ⌜ at ≤ 508 ⌝ }
-{
-    let mut with = out;
-    with[at] = low(number);
-    with[at + 1] = low(number / 256);
-    with[at + 2] = low(number / 65536);
-    with[at + 3] = low(number / 16777216);
-    with
-}
-
-fn low(number: usize) -> u8 {
-    (number % 256) as u8
+// Are the bytes a body's offset and length?
+fn is_entry(body: Body, bytes: &[u8]) -> bool {
+    let offset = number_bytes(body.offset);
+    let length = number_bytes(body.length);
+    equal(&offset, part(bytes, 0, 4)) && equal(&length, part(bytes, 4, ENTRY))
 }

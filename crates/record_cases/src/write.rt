@@ -3,40 +3,54 @@ use cases::Head;
 use cases::Outcome;
 use cases::Small;
 use record::Header;
+use slices::part;
 
 pub fn write_case(
     file: &[u8],
-    at: usize,
+    head: Head,
     commitments: &mut [u8],
     exchanges: &mut [u8],
     expected: &mut [u8],
     out: &mut [u8],
 ) -> Outcome {
-    let head = cases::head_at(file, at);
     let numbers = cases::load_small(file, head.next);
     let key = cases::load_small(file, numbers.next);
     let first = cases::load(file, key.next, commitments);
-    let second = cases::load(file, first.next, exchanges);
-    let third = cases::load(file, second.next, expected);
-    let key_bytes = key.bytes;
-    let key_length = key.length;
-    let first_length = first.length;
-    let second_length = second.length;
-    let length = third.length;
-    if out.len() < length {
-        return Outcome {
-            next: 0,
-            agrees: false,
-        };
-    }
-    let agrees = written(
+    rounds_case(
+        file,
         head,
         header_of(numbers),
-        &key_bytes[..key_length],
-        &commitments[..first_length],
-        &exchanges[..second_length],
-        &expected[..length],
-        &mut out[..length],
+        key,
+        part(commitments, 0, first.length),
+        first.next,
+        exchanges,
+        expected,
+        out,
+    )
+}
+
+// The case whose pieces behind the commitments start at `at`.
+fn rounds_case<'a>(
+    file: &'a [u8],
+    head: Head,
+    header: Header,
+    key: Small,
+    commitments: &'a [u8],
+    at: usize,
+    exchanges: &mut [u8],
+    expected: &mut [u8],
+    out: &mut [u8],
+) -> Outcome {
+    let second = cases::load(file, at, exchanges);
+    let third = cases::load(file, second.next, expected);
+    let agrees = written(
+        head,
+        header,
+        key,
+        commitments,
+        part(exchanges, 0, second.length),
+        part(expected, 0, third.length),
+        cases::front(out, third.length),
     );
     Outcome {
         next: third.next,
@@ -48,14 +62,21 @@ pub fn write_case(
 fn written<'a>(
     head: Head,
     header: Header,
-    key: &'a [u8],
+    key: Small,
     commitments: &'a [u8],
     exchanges: &'a [u8],
     expected: &'a [u8],
     out: &mut [u8],
 ) -> bool {
+    let key_bytes = key.bytes;
     cases::fill(out, head.fill);
-    let number = record_writer::write(header, key, commitments, exchanges, out);
+    let number = record_writer::write(
+        header,
+        part(&key_bytes, 0, key.length),
+        commitments,
+        exchanges,
+        out,
+    );
     number == head.number && cases::same_start(out, expected, expected.len())
 }
 

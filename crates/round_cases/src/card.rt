@@ -1,153 +1,116 @@
-// Cases of the card's calls: commit, the answer to α, reply.
-use crate::compare::answered;
-use crate::compare::malformed;
+// Cases of the card's calls: commit, the answer to α, reply. They answer 0.
 use crate::compare::same_commitments;
 use crate::compare::same_middle;
 use crate::compare::same_reply_five;
 use crate::compare::same_reply_three;
 use cases::Outcome;
 use cases::Small;
-use field::slot;
-use round::Rhos;
+use exchange::five_commitments;
+use exchange::read_lent;
+use exchange::three_commitments;
+use exchange::three_reply;
+use field::from_slice;
 use slices::byte_at;
-use slices::bytes32;
 ghost use mathlib.Core.Path.{_≡_};
 ghost use Rattle.system.specs.System.{systemRefusal};
-
-// A card's secret and what is lent to it for a round.
-struct Card {
-    s: [u8; 96],
-    r0: [u8; 96],
-    t0: [u8; 96],
-    e0: [u8; 96],
-    rhos: Rhos,
-}
-
-// The card of the pieces s and lent.
-fn card_of(n: u8, m: u8, s: Small, lent: Small) -> Card {
-    let s_bytes = s.bytes;
-    let bytes = lent.bytes;
-    read_card(n, m, &s_bytes, &bytes)
-}
-
-// In scheme 5, which has no ρ2, that is zero.
-fn read_card<'a>(n: u8, m: u8, s: &'a [u8], lent: &'a [u8]) -> Card {
-    let after_r0 = n as usize;
-    let after_t0 = after_r0 + n as usize;
-    let after_e0 = after_t0 + m as usize;
-    Card {
-        s: slot(s, 0, n),
-        r0: slot(lent, 0, n),
-        t0: slot(lent, after_r0, n),
-        e0: slot(lent, after_t0, m),
-        rhos: Rhos {
-            rho0: bytes32(lent, after_e0),
-            rho1: bytes32(lent, after_e0 + 32),
-            rho2: bytes32(lent, after_e0 + 64),
-        },
-    }
-}
-
-// The byte of a piece of one byte.
-pub fn byte_of(piece: Small) -> u8 {
-    let bytes = piece.bytes;
-    byte_at(&bytes, 0)
-}
 
 pub fn commit_case<'a>(file: &'a [u8], number: u8, at: usize, system: &'a [u8]) -> Outcome
     requires { ⌜ systemRefusal (now system) ≡ 0 ⌝ }
 {
-    let scheme = cases::load_small(file, at);
+    let scheme = cases::load_byte(file, at);
     let s = cases::load_small(file, scheme.next);
     let lent = cases::load_small(file, s.next);
     let expected = cases::load_small(file, lent.next);
-    let next = expected.next;
-    let card = card_of(byte_at(system, 1), byte_at(system, 2), s, lent);
-    match byte_of(scheme) {
-        3 => answered(next, number, commits_three(system, card, expected)),
-        5 => answered(next, number, commits_five(system, card, expected)),
-        _ => malformed(),
+    let same = commits(system, scheme.value, s, lent, expected);
+    Outcome {
+        next: expected.next,
+        agrees: number == 0 && same,
     }
 }
 
-fn commits_three(system: &[u8], card: Card, expected: Small) -> bool
+// Whether the card's commitments are those expected.
+fn commits(system: &[u8], scheme: u8, s: Small, lent: Small, expected: Small) -> bool
     requires { ⌜ systemRefusal (now system) ≡ 0 ⌝ }
 {
-    let n = byte_at(system, 1);
-    let m = byte_at(system, 2);
-    let s = card.s;
-    let r0 = card.r0;
-    let t0 = card.t0;
-    let e0 = card.e0;
-    let w = round::card_three(system, s, r0, t0, e0);
-    same_commitments(round::commitments_three(n, m, w, card.rhos), expected, 96)
+    let secret = vector_of(s);
+    let bytes = lent.bytes;
+    match scheme {
+        3 => same_commitments(three_commitments(system, secret, &bytes), expected, 96),
+        5 => same_commitments(five_commitments(system, secret, &bytes), expected, 64),
+        _ => false,
+    }
 }
 
-fn commits_five(system: &[u8], card: Card, expected: Small) -> bool
-    requires { ⌜ systemRefusal (now system) ≡ 0 ⌝ }
-{
-    let s = card.s;
-    let r0 = card.r0;
-    let t0 = card.t0;
-    let e0 = card.e0;
-    let made = round::commitments_five(system, s, r0, t0, e0, card.rhos);
-    same_commitments(made, expected, 64)
-}
-
-// The answer takes no s: lent stands in its place, and the card's s is not read.
 pub fn answer_case<'a>(file: &'a [u8], number: u8, at: usize, system: &'a [u8]) -> Outcome
     requires { ⌜ systemRefusal (now system) ≡ 0 ⌝ }
 {
-    let alpha = cases::load_small(file, at);
+    let alpha = cases::load_byte(file, at);
     let lent = cases::load_small(file, alpha.next);
     let expected = cases::load_small(file, lent.next);
-    let next = expected.next;
+    let same = answers(system, alpha.value, lent, expected);
+    Outcome {
+        next: expected.next,
+        agrees: number == 0 && same,
+    }
+}
+
+// Whether the card's t1 and e1 are those expected.
+fn answers(system: &[u8], alpha: u8, lent: Small, expected: Small) -> bool
+    requires { ⌜ systemRefusal (now system) ≡ 0 ⌝ }
+{
     let n = byte_at(system, 1);
     let m = byte_at(system, 2);
-    let card = card_of(n, m, lent, lent);
-    let r0 = card.r0;
-    let t0 = card.t0;
-    let e0 = card.e0;
-    let made = round::middle(system, byte_of(alpha), r0, t0, e0);
-    answered(next, number, same_middle(made, expected, n, m))
+    let bytes = lent.bytes;
+    let held = read_lent(&bytes, n, m);
+    let r0 = held.r0;
+    let t0 = held.t0;
+    let e0 = held.e0;
+    same_middle(round::middle(system, alpha, r0, t0, e0), expected, n, m)
 }
 
 pub fn reply_case<'a>(file: &'a [u8], number: u8, at: usize, system: &'a [u8]) -> Outcome
     requires { ⌜ systemRefusal (now system) ≡ 0 ⌝ }
 {
-    let scheme = cases::load_small(file, at);
+    let scheme = cases::load_byte(file, at);
     let s = cases::load_small(file, scheme.next);
     let lent = cases::load_small(file, s.next);
-    let challenge = cases::load_small(file, lent.next);
+    let challenge = cases::load_byte(file, lent.next);
     let expected = cases::load_small(file, challenge.next);
-    let next = expected.next;
-    let ch = byte_of(challenge);
-    let card = card_of(byte_at(system, 1), byte_at(system, 2), s, lent);
-    match byte_of(scheme) {
-        3 => answered(next, number, replies_three(system, card, ch, expected)),
-        5 => answered(next, number, replies_five(system, card, ch, expected)),
-        _ => malformed(),
+    let same = replies(system, scheme.value, s, lent, challenge.value, expected);
+    Outcome {
+        next: expected.next,
+        agrees: number == 0 && same,
     }
 }
 
-fn replies_three(system: &[u8], card: Card, challenge: u8, expected: Small) -> bool
+// Whether the card's reply is the one expected.
+fn replies(system: &[u8], scheme: u8, s: Small, lent: Small, challenge: u8, expected: Small) -> bool
     requires { ⌜ systemRefusal (now system) ≡ 0 ⌝ }
 {
     let n = byte_at(system, 1);
     let m = byte_at(system, 2);
-    let s = card.s;
-    let r0 = card.r0;
-    let t0 = card.t0;
-    let e0 = card.e0;
-    let w = round::card_three(system, s, r0, t0, e0);
-    same_reply_three(round::reply_three(w, card.rhos, challenge), expected, n, m)
+    let secret = vector_of(s);
+    let bytes = lent.bytes;
+    match scheme {
+        3 => same_reply_three(
+            three_reply(system, secret, &bytes, challenge),
+            expected,
+            n,
+            m,
+        ),
+        5 => {
+            let held = read_lent(&bytes, n, m);
+            let r0 = held.r0;
+            let rhos = held.rhos;
+            let made = round::reply_five(byte_at(system, 0), n, secret, r0, rhos, challenge);
+            same_reply_five(made, expected, n)
+        }
+        _ => false,
+    }
 }
 
-fn replies_five(system: &[u8], card: Card, challenge: u8, expected: Small) -> bool {
-    let q = byte_at(system, 0);
-    let n = byte_at(system, 1);
-    let s = card.s;
-    let r0 = card.r0;
-    let made = round::reply_five(q, n, s, r0, card.rhos, challenge);
-    same_reply_five(made, expected, n)
+// The vector of a piece.
+pub fn vector_of(piece: Small) -> [u8; 96] {
+    let bytes = piece.bytes;
+    from_slice(&bytes)
 }

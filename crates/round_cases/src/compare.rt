@@ -1,26 +1,11 @@
 // Outputs held against the pieces expected. What is beyond the end of a piece is zero, as in the engine's vectors.
-use cases::Outcome;
 use cases::Small;
 use round::Commitments;
 use round::Middle;
 use round::ReplyFive;
 use round::ReplyThree;
+use slices::equal;
 use slices::same32;
-
-pub fn malformed() -> Outcome {
-    Outcome {
-        next: 0,
-        agrees: false,
-    }
-}
-
-// How a case of the card's calls went, which answer 0.
-pub fn answered(next: usize, number: u8, same: bool) -> Outcome {
-    Outcome {
-        next,
-        agrees: number == 0 && same,
-    }
-}
 
 // Two or three commitments, of so many bytes; the engine's c2 is zero where there are two.
 pub fn same_commitments(made: Commitments, expected: Small, length: usize) -> bool {
@@ -82,5 +67,5 @@ pub fn same_reply_five(made: ReplyFive, expected: Small, n: u8) -> bool {
 
 // Whether two vectors are the same.
 fn same96(a: [u8; 96], b: [u8; 96]) -> bool {
-    check::same(&a, &b)
+    equal(&a, &b)
 }

@@ -1,8 +1,7 @@
 // Cases of the judgement of a round.
-use crate::card::byte_of;
+use crate::card::vector_of;
 use cases::Outcome;
 use cases::Small;
-use field::from_slice;
 ghost use mathlib.Core.Path.{_≡_};
 ghost use Rattle.system.specs.System.{systemRefusal};
 
@@ -10,13 +9,21 @@ ghost use Rattle.system.specs.System.{systemRefusal};
 pub fn judge_case<'a>(file: &'a [u8], number: u8, at: usize, system: &'a [u8]) -> Outcome
     requires { ⌜ systemRefusal (now system) ≡ 0 ⌝ }
 {
-    let scheme = cases::load_small(file, at);
+    let scheme = cases::load_byte(file, at);
     let v = cases::load_small(file, scheme.next);
     let commitments = cases::load_small(file, v.next);
     let middle = cases::load_small(file, commitments.next);
-    let challenge = cases::load_small(file, middle.next);
+    let challenge = cases::load_byte(file, middle.next);
     let reply = cases::load_small(file, challenge.next);
-    let accepted = accepts(system, scheme, v, commitments, middle, challenge, reply);
+    let accepted = accepts(
+        system,
+        scheme.value,
+        v,
+        commitments,
+        middle,
+        challenge.value,
+        reply,
+    );
     let answer = if accepted { 1 } else { 0 };
     Outcome {
         next: reply.next,
@@ -26,11 +33,11 @@ pub fn judge_case<'a>(file: &'a [u8], number: u8, at: usize, system: &'a [u8]) -
 
 fn accepts(
     system: &[u8],
-    scheme: Small,
+    scheme: u8,
     v: Small,
     commitments: Small,
     middle: Small,
-    challenge: Small,
+    challenge: u8,
     reply: Small,
 ) -> bool
     requires { ⌜ systemRefusal (now system) ≡ 0 ⌝ }
@@ -40,16 +47,11 @@ fn accepts(
     let last = reply.bytes;
     exchange::judge(
         system,
-        byte_of(scheme),
+        scheme,
         vector_of(v),
         &sent,
         &between,
-        byte_of(challenge),
+        challenge,
         &last,
     )
-}
-
-fn vector_of(piece: Small) -> [u8; 96] {
-    let bytes = piece.bytes;
-    from_slice(&bytes)
 }

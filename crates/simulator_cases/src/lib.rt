@@ -1,79 +1,65 @@
-// Runs the stored vectors of the simulator against the proved engine, and reports how many agree.
-ghost use mathlib.Core.Path.{_≡_};
-ghost use lib.ListN.{length};
+// Cases of the simulator.
+use cases::Head;
 use cases::Outcome;
+use cases::Small;
+use slices::part;
 
-// The byte that names the simulator in a case.
+// The kind of a simulation.
 const SIMULATE: u8 = 8;
 
-fn main() {
-    let mut file = cases::file_buffer();
-    let length = io::read_full(0, &mut file);
-    let mut system = system_buffer();
-    run(&file[..length], &mut system);
-}
-
-// Zeros, with room for the largest system and one that is too long.
-fn system_buffer() -> [u8; 500000]
-    ensures { λ r. ⌜ 500000 ≡ length r ⌝ }
-{
-    [0; 500000]
-}
-
-// Runs each case in turn. A position that does not move on ends the run.
-fn run(file: &[u8], system: &mut [u8]) {
-    let mut state = cases::begin(file);
-    let mut at = state.at;
-    while at < file.len() {
-        let outcome = run_case(file, at, system);
-        state = cases::after(file, state, outcome);
-        let next = state.at;
-        if next <= at {
-            return;
-        }
-        at = next;
-    }
-}
-
-// A case of another kind is malformed.
-fn run_case(file: &[u8], at: usize, system: &mut [u8]) -> Outcome {
-    let kind = cases::head_at(file, at).kind;
-    if kind == SIMULATE {
-        simulate_case(file, at, system)
-    } else {
-        Outcome {
-            next: 0,
-            agrees: false,
-        }
-    }
-}
-
-fn simulate_case(file: &[u8], at: usize, buffer: &mut [u8]) -> Outcome {
+// Runs the case at `at`, whose system the buffer has room for. A case of another kind is malformed.
+pub fn simulator_case(file: &[u8], at: usize, buffer: &mut [u8]) -> Outcome {
     let head = cases::head_at(file, at);
+    if head.kind != SIMULATE {
+        return cases::malformed();
+    }
     let system = cases::load(file, head.next, buffer);
-    let length = system.length;
-    let v = cases::load_small(file, system.next);
-    let guess = cases::load_small(file, v.next);
-    let challenge = cases::load_small(file, guess.next);
+    simulate_case(file, head, system.next, part(buffer, 0, system.length))
+}
+
+// The case whose pieces behind the system start at `at`.
+fn simulate_case<'a>(file: &'a [u8], head: Head, at: usize, system: &'a [u8]) -> Outcome {
+    let v = cases::load_small(file, at);
+    let guess = cases::load_byte(file, v.next);
+    let challenge = cases::load_byte(file, guess.next);
     let lent = cases::load_small(file, challenge.next);
     let commitments = cases::load_small(file, lent.next);
     let reply = cases::load_small(file, commitments.next);
-    let v_length = v.length;
+    simulated(
+        head,
+        system,
+        v,
+        guess.value,
+        challenge.value,
+        lent,
+        commitments,
+        reply,
+    )
+}
+
+// How the call goes, with the two outputs expected.
+fn simulated(
+    head: Head,
+    system: &[u8],
+    v: Small,
+    guess: u8,
+    challenge: u8,
+    lent: Small,
+    commitments: Small,
+    reply: Small,
+) -> Outcome {
     let v_bytes = v.bytes;
-    let lent_length = lent.length;
     let lent_bytes = lent.bytes;
-    let commitments_length = commitments.length;
-    let reply_length = reply.length;
     let mut first = [head.fill; 512];
     let mut second = [head.fill; 512];
     let number = simulator::simulate(
-        &buffer[..length],
-        &v_bytes[..v_length],
-        guess.bytes[0],
-        challenge.bytes[0],
-        &lent_bytes[..lent_length],
-        &mut first[..commitments_length],
-        &mut second[..reply_length],
+        system,
+        part(&v_bytes, 0, v.length),
+        guess,
+        challenge,
+        part(&lent_bytes, 0, lent.length),
+        cases::front(&mut first, commitments.length),
+        cases::front(&mut second, reply.length),
     );
     let outcome = cases::compared(commitments, number == head.number, first);
     cases::compared(reply, outcome.agrees, second)

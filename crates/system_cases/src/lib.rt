@@ -1,112 +1,63 @@
-// Runs the stored vectors of the system check, F and G against the proved engine, and reports how
-// many agree.
-ghost use mathlib.Core.Path.{_≡_};
-ghost use lib.ListN.{length};
+// Cases of the system's check, of F and of G.
+use cases::Head;
 use cases::Outcome;
+use slices::part;
 
-// The bytes that name the entries in a case.
+// The kinds of the calls.
 const CHECK: u8 = 0;
 
 const EVALUATE: u8 = 1;
 
 const POLAR: u8 = 2;
 
-fn main() {
-    let mut file = cases::file_buffer();
-    let length = io::read_full(0, &mut file);
-    let mut system = system_buffer();
-    run(&file[..length], &mut system);
+// Runs the case at `at`, whose system the buffer has room for. A case of another kind is malformed.
+pub fn system_case(file: &[u8], at: usize, buffer: &mut [u8]) -> Outcome {
+    let head = cases::head_at(file, at);
+    let system = cases::load(file, head.next, buffer);
+    call_case(file, head, system.next, part(buffer, 0, system.length))
 }
 
-// Zeros, with room for the largest system and one that is too long.
-fn system_buffer() -> [u8; 500000]
-    ensures { λ r. ⌜ 500000 ≡ length r ⌝ }
-{
-    [0; 500000]
-}
-
-// Runs each case in turn. A position that does not move on ends the run.
-fn run(file: &[u8], system: &mut [u8]) {
-    let mut state = cases::begin(file);
-    let mut at = state.at;
-    while at < file.len() {
-        let outcome = run_case(file, at, system);
-        state = cases::after(file, state, outcome);
-        let next = state.at;
-        if next <= at {
-            return;
+// The case of a kind, whose pieces behind the system start at `at`.
+fn call_case<'a>(file: &'a [u8], head: Head, at: usize, system: &'a [u8]) -> Outcome {
+    if head.kind == CHECK {
+        Outcome {
+            next: at,
+            agrees: system::check(system) == head.number,
         }
-        at = next;
-    }
-}
-
-fn run_case(file: &[u8], at: usize, system: &mut [u8]) -> Outcome {
-    let kind = cases::head_at(file, at).kind;
-    if kind == CHECK {
-        check_case(file, at, system)
-    } else if kind == EVALUATE {
-        evaluate_case(file, at, system)
-    } else if kind == POLAR {
-        polar_case(file, at, system)
+    } else if head.kind == EVALUATE {
+        evaluate_case(file, head, at, system)
+    } else if head.kind == POLAR {
+        polar_case(file, head, at, system)
     } else {
-        malformed()
+        cases::malformed()
     }
 }
 
-fn malformed() -> Outcome {
-    Outcome {
-        next: 0,
-        agrees: false,
-    }
-}
-
-fn check_case(file: &[u8], at: usize, buffer: &mut [u8]) -> Outcome {
-    let head = cases::head_at(file, at);
-    let system = cases::load(file, head.next, buffer);
-    let length = system.length;
-    let number = system::check(&buffer[..length]);
-    Outcome {
-        next: system.next,
-        agrees: number == head.number,
-    }
-}
-
-fn evaluate_case(file: &[u8], at: usize, buffer: &mut [u8]) -> Outcome {
-    let head = cases::head_at(file, at);
-    let system = cases::load(file, head.next, buffer);
-    let length = system.length;
-    let x = cases::load_small(file, system.next);
+fn evaluate_case<'a>(file: &'a [u8], head: Head, at: usize, system: &'a [u8]) -> Outcome {
+    let x = cases::load_small(file, at);
     let expected = cases::load_small(file, x.next);
-    let x_length = x.length;
     let x_bytes = x.bytes;
-    let out_length = expected.length;
     let mut out = [head.fill; 512];
     let number = evaluation::evaluate(
-        &buffer[..length],
-        &x_bytes[..x_length],
-        &mut out[..out_length],
+        system,
+        part(&x_bytes, 0, x.length),
+        cases::front(&mut out, expected.length),
     );
     cases::compared(expected, number == head.number, out)
 }
 
-fn polar_case(file: &[u8], at: usize, buffer: &mut [u8]) -> Outcome {
-    let head = cases::head_at(file, at);
-    let system = cases::load(file, head.next, buffer);
-    let length = system.length;
-    let x = cases::load_small(file, system.next);
+fn polar_case<'a>(file: &'a [u8], head: Head, at: usize, system: &'a [u8]) -> Outcome {
+    let x = cases::load_small(file, at);
     let y = cases::load_small(file, x.next);
     let expected = cases::load_small(file, y.next);
-    let x_length = x.length;
     let x_bytes = x.bytes;
-    let y_length = y.length;
     let y_bytes = y.bytes;
-    let out_length = expected.length;
     let mut out = [head.fill; 512];
     let number = evaluation::polar(
-        &buffer[..length],
-        &x_bytes[..x_length],
-        &y_bytes[..y_length],
-        &mut out[..out_length],
+        system,
+        part(&x_bytes, 0, x.length),
+        part(&y_bytes, 0, y.length),
+        cases::front(&mut out, expected.length),
     );
     cases::compared(expected, number == head.number, out)
 }

@@ -1,10 +1,10 @@
--- `audit_vectors::run` is safe and ends: each turn moves on in the file, and the buffers keep their lengths. Assumes nothing.
+-- `vectors::run` is safe and ends: each turn moves on in the file, and the buffers keep their lengths. Assumes nothing.
 use Prim.Native.Nat.{_-_}
 use mathlib.Core.Path.{_≡_}
 use lib.ListN.{length}
 use borrow.Author.Needs.{needs}
-use Rattle.audit_vectors.proofs.run.Statement.{statement}
-use Rattle.audit_vectors.proofs.run.Tie as tie
+use Rattle.vectors.proofs.run.Statement.{statement}
+use Rattle.vectors.proofs.run.Tie as tie
 
 abbrev Inv-loop : tie.InvT-loop
 Inv-loop file system₀ a₀ b₀ c₀ d₀ state₀ at₀ system a b c d state at =
