@@ -1,5 +1,4 @@
 // The card's calls: each prints its word, its number and its output's digest.
-use crate::line::answered;
 use crate::line::say_answer;
 use crate::line::say_digest;
 use card::Card;
@@ -7,6 +6,7 @@ use card::CardAnswer;
 use cases::Head;
 use cases::Outcome;
 use cases::Small;
+use slices::part;
 
 // How a call went, and the session after it.
 pub struct CardStep {
@@ -14,14 +14,18 @@ pub struct CardStep {
     pub card: Card,
 }
 
-pub fn card_call(file: &[u8], at: usize, buffer: &mut [u8], card: Card) -> CardStep {
-    let head = cases::head_at(file, at);
+pub fn card_call(file: &[u8], head: Head, buffer: &mut [u8], card: Card) -> CardStep {
     if head.kind == 15 {
         return reply_call(file, head, card);
     }
     let system = cases::load(file, head.next, buffer);
-    let length = system.length;
-    system_call(file, head, system.next, &buffer[..length], card)
+    system_call(
+        file,
+        head,
+        system.next,
+        part(buffer, 0, system.length),
+        card,
+    )
 }
 
 // The calls that begin with a system.
@@ -44,103 +48,102 @@ fn system_call<'a>(
 // A malformed case leaves the session.
 fn no_call(card: Card) -> CardStep {
     CardStep {
-        outcome: answered(0, false),
+        outcome: cases::malformed(),
         card,
     }
 }
 
-// The step after an answer with an output.
-fn put_out(head: Head, expected: Small, answer: CardAnswer, out: [u8; 512]) -> CardStep {
+// The line's start, and the step after an answer with an output.
+fn put_out(
+    word: &[u8],
+    number: u8,
+    expected: Small,
+    answer: CardAnswer,
+    out: [u8; 512],
+) -> CardStep {
     let card = answer.card;
+    say_answer(word, answer.refusal);
+    say_digest(part(&out, 0, expected.length));
     CardStep {
-        outcome: cases::compared(expected, answer.refusal == head.number, out),
+        outcome: cases::compared(expected, answer.refusal == number, out),
         card,
     }
 }
 
 fn open_call<'a>(file: &'a [u8], head: Head, at: usize, system: &'a [u8], old: Card) -> CardStep {
-    let scheme = cases::load_small(file, at);
-    let rounds = cases::load_small(file, scheme.next);
+    let scheme = cases::load_byte(file, at);
+    let rounds = cases::load_byte(file, scheme.next);
     let v = cases::load_small(file, rounds.next);
     let s = cases::load_small(file, v.next);
-    let v_length = v.length;
-    let v_bytes = v.bytes;
-    let s_length = s.length;
-    let s_bytes = s.bytes;
-    let next = s.next;
-    if next == 0 {
+    if s.next == 0 {
         return no_call(old);
     }
-    let answer = card::open(
-        system,
-        scheme.bytes[0],
-        rounds.bytes[0],
-        &v_bytes[..v_length],
-        &s_bytes[..s_length],
-    );
+    let answer = opened(system, scheme.value, rounds.value, v, s);
     say_answer(b"card ", answer.refusal);
     let card = answer.card;
-    CardStep {
-        outcome: answered(next, answer.refusal == head.number),
-        card,
-    }
+    let outcome = Outcome {
+        next: s.next,
+        agrees: answer.refusal == head.number,
+    };
+    CardStep { outcome, card }
+}
+
+fn opened(system: &[u8], scheme: u8, rounds: u8, v: Small, s: Small) -> CardAnswer {
+    let v_bytes = v.bytes;
+    let s_bytes = s.bytes;
+    card::open(
+        system,
+        scheme,
+        rounds,
+        part(&v_bytes, 0, v.length),
+        part(&s_bytes, 0, s.length),
+    )
 }
 
 fn commit_call<'a>(file: &'a [u8], head: Head, at: usize, system: &'a [u8], old: Card) -> CardStep {
     let lent = cases::load_small(file, at);
     let expected = cases::load_small(file, lent.next);
-    let lent_length = lent.length;
-    let lent_bytes = lent.bytes;
-    let length = expected.length;
     if expected.next == 0 {
         return no_call(old);
     }
+    let lent_bytes = lent.bytes;
     let mut out = [head.fill; 512];
-    let answer = commit(old, system, &lent_bytes[..lent_length], &mut out[..length]);
-    put_out(head, expected, answer, out)
-}
-
-fn commit<'a>(old: Card, system: &'a [u8], lent: &'a [u8], out: &mut [u8]) -> CardAnswer {
-    let answer = card::commit(old, system, lent, out);
-    say_answer(b"commit ", answer.refusal);
-    say_digest(out);
-    answer
+    let answer = card::commit(
+        old,
+        system,
+        part(&lent_bytes, 0, lent.length),
+        cases::front(&mut out, expected.length),
+    );
+    put_out(b"commit ", head.number, expected, answer, out)
 }
 
 fn answer_call<'a>(file: &'a [u8], head: Head, at: usize, system: &'a [u8], old: Card) -> CardStep {
-    let alpha = cases::load_small(file, at);
+    let alpha = cases::load_byte(file, at);
     let expected = cases::load_small(file, alpha.next);
-    let length = expected.length;
     if expected.next == 0 {
         return no_call(old);
     }
     let mut out = [head.fill; 512];
-    let answer = answer_alpha(old, system, alpha.bytes[0], &mut out[..length]);
-    put_out(head, expected, answer, out)
-}
-
-fn answer_alpha(old: Card, system: &[u8], alpha: u8, out: &mut [u8]) -> CardAnswer {
-    let answer = card::answer_alpha(old, system, alpha, out);
-    say_answer(b"answer ", answer.refusal);
-    say_digest(out);
-    answer
+    let answer = card::answer_alpha(
+        old,
+        system,
+        alpha.value,
+        cases::front(&mut out, expected.length),
+    );
+    put_out(b"answer ", head.number, expected, answer, out)
 }
 
 fn reply_call(file: &[u8], head: Head, old: Card) -> CardStep {
-    let challenge = cases::load_small(file, head.next);
+    let challenge = cases::load_byte(file, head.next);
     let expected = cases::load_small(file, challenge.next);
-    let length = expected.length;
     if expected.next == 0 {
         return no_call(old);
     }
     let mut out = [head.fill; 512];
-    let answer = reply(old, challenge.bytes[0], &mut out[..length]);
-    put_out(head, expected, answer, out)
-}
-
-fn reply(old: Card, challenge: u8, out: &mut [u8]) -> CardAnswer {
-    let answer = card::reply(old, challenge, out);
-    say_answer(b"reply ", answer.refusal);
-    say_digest(out);
-    answer
+    let answer = card::reply(
+        old,
+        challenge.value,
+        cases::front(&mut out, expected.length),
+    );
+    put_out(b"reply ", head.number, expected, answer, out)
 }

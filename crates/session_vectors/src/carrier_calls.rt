@@ -1,13 +1,18 @@
 // The carrier's calls: each prints its word and its number, that of a reply also accept or reject.
-use crate::line::answered;
 use crate::line::say;
 use crate::line::say_answer;
 use carrier::Carrier;
 use carrier::CarrierAnswer;
 use carrier::Judged;
+use carrier::set_alpha;
+use carrier::set_challenge;
+use carrier::take_commitments;
+use carrier::take_middle;
+use cases::Byte;
 use cases::Head;
 use cases::Outcome;
-use cases::Small;
+use slices::byte_at;
+use slices::part;
 
 // How a call went, and the session after it.
 pub struct CarrierStep {
@@ -15,14 +20,18 @@ pub struct CarrierStep {
     pub carrier: Carrier,
 }
 
-pub fn carrier_call(file: &[u8], at: usize, buffer: &mut [u8], carrier: Carrier) -> CarrierStep {
-    let head = cases::head_at(file, at);
+pub fn carrier_call(file: &[u8], head: Head, buffer: &mut [u8], carrier: Carrier) -> CarrierStep {
     if head.kind != 16 && head.kind != 21 {
         return message_call(file, head, carrier);
     }
     let system = cases::load(file, head.next, buffer);
-    let length = system.length;
-    system_call(file, head, system.next, &buffer[..length], carrier)
+    system_call(
+        file,
+        head,
+        system.next,
+        part(buffer, 0, system.length),
+        carrier,
+    )
 }
 
 // The calls that begin with a system.
@@ -43,7 +52,7 @@ fn system_call<'a>(
 // A malformed case leaves the session.
 fn no_call(carrier: Carrier) -> CarrierStep {
     CarrierStep {
-        outcome: answered(0, false),
+        outcome: cases::malformed(),
         carrier,
     }
 }
@@ -52,10 +61,11 @@ fn no_call(carrier: Carrier) -> CarrierStep {
 fn said(word: &[u8], next: usize, number: u8, answer: CarrierAnswer) -> CarrierStep {
     say_answer(word, answer.refusal);
     let carrier = answer.carrier;
-    CarrierStep {
-        outcome: answered(next, answer.refusal == number),
-        carrier,
-    }
+    let outcome = Outcome {
+        next,
+        agrees: answer.refusal == number,
+    };
+    CarrierStep { outcome, carrier }
 }
 
 fn open_call<'a>(
@@ -65,59 +75,43 @@ fn open_call<'a>(
     system: &'a [u8],
     old: Carrier,
 ) -> CarrierStep {
-    let scheme = cases::load_small(file, at);
-    let rounds = cases::load_small(file, scheme.next);
+    let scheme = cases::load_byte(file, at);
+    let rounds = cases::load_byte(file, scheme.next);
     let v = cases::load_small(file, rounds.next);
-    let v_length = v.length;
-    let v_bytes = v.bytes;
-    let next = v.next;
-    if next == 0 {
+    if v.next == 0 {
         return no_call(old);
     }
+    let v_bytes = v.bytes;
     let answer = carrier::open(
         system,
-        scheme.bytes[0],
-        rounds.bytes[0],
-        &v_bytes[..v_length],
+        scheme.value,
+        rounds.value,
+        part(&v_bytes, 0, v.length),
     );
-    said(b"carrier ", next, head.number, answer)
+    said(b"carrier ", v.next, head.number, answer)
 }
 
 // The calls with one message.
 fn message_call(file: &[u8], head: Head, old: Carrier) -> CarrierStep {
     let message = cases::load_small(file, head.next);
-    let length = message.length;
     let bytes = message.bytes;
     let next = message.next;
     if next == 0 {
         return no_call(old);
     }
+    given(head, next, old, part(&bytes, 0, message.length))
+}
+
+// The step after a call with this message; its first byte is α or the challenge.
+fn given(head: Head, next: usize, old: Carrier, message: &[u8]) -> CarrierStep {
     let kind = head.kind;
+    let number = head.number;
+    let byte = byte_at(message, 0);
     match kind {
-        17 => said(
-            b"take ",
-            next,
-            head.number,
-            carrier::take_commitments(old, &bytes[..length]),
-        ),
-        18 => said(
-            b"alpha ",
-            next,
-            head.number,
-            carrier::set_alpha(old, message.bytes[0]),
-        ),
-        19 => said(
-            b"middle ",
-            next,
-            head.number,
-            carrier::take_middle(old, &bytes[..length]),
-        ),
-        20 => said(
-            b"ask ",
-            next,
-            head.number,
-            carrier::set_challenge(old, message.bytes[0]),
-        ),
+        17 => said(b"take ", next, number, take_commitments(old, message)),
+        18 => said(b"alpha ", next, number, set_alpha(old, byte)),
+        19 => said(b"middle ", next, number, take_middle(old, message)),
+        20 => said(b"ask ", next, number, set_challenge(old, byte)),
         _ => no_call(old),
     }
 }
@@ -130,13 +124,12 @@ fn judge_call<'a>(
     old: Carrier,
 ) -> CarrierStep {
     let reply = cases::load_small(file, at);
-    let expected = cases::load_small(file, reply.next);
-    let reply_length = reply.length;
-    let reply_bytes = reply.bytes;
+    let expected = cases::load_byte(file, reply.next);
     if expected.next == 0 {
         return no_call(old);
     }
-    let judged = carrier::take_reply(old, system, &reply_bytes[..reply_length]);
+    let reply_bytes = reply.bytes;
+    let judged = carrier::take_reply(old, system, part(&reply_bytes, 0, reply.length));
     say_answer(b"judge ", judged.refusal);
     let carrier = judged.carrier;
     CarrierStep {
@@ -146,7 +139,7 @@ fn judge_call<'a>(
 }
 
 // Prints accept or reject, which the case has as a byte, 1 or 0, and its fill where the call is refused.
-fn judgement(head: Head, expected: Small, judged: Judged) -> Outcome {
+fn judgement(head: Head, expected: Byte, judged: Judged) -> Outcome {
     let byte = if judged.refusal != 0 {
         head.fill
     } else if judged.accepted {
@@ -156,8 +149,8 @@ fn judgement(head: Head, expected: Small, judged: Judged) -> Outcome {
         say(b" reject");
         0
     };
-    answered(
-        expected.next,
-        judged.refusal == head.number && expected.bytes[0] == byte,
-    )
+    Outcome {
+        next: expected.next,
+        agrees: judged.refusal == head.number && expected.value == byte,
+    }
 }

@@ -3,17 +3,13 @@ use card::Card;
 use card::CardPhase;
 use carrier::Carrier;
 use carrier::CarrierPhase;
-use cases::Outcome;
+use hex::append_hex;
 use libc::STDOUT_FILENO;
 use session_state::Verdict;
+use slices::part;
 
-// How many bytes of a digest are shown.
-const SHOWN: usize = 8;
-
-// How a case with no output went.
-pub fn answered(next: usize, agrees: bool) -> Outcome {
-    Outcome { next, agrees }
-}
+// How many digits of a digest are shown: those of its first 8 bytes.
+const SHOWN: usize = 16;
 
 pub fn say(text: &[u8]) {
     io::write_all(STDOUT_FILENO, text);
@@ -30,16 +26,13 @@ pub fn say_digest(out: &[u8]) {
     let mut digest = [0u8; 32];
     sha256::digest(out, &mut digest);
     say(b" ");
-    let mut i = 0;
-    while i < SHOWN {
-        say_byte(digest[i]);
-        i += 1;
-    }
+    say_start(&digest);
 }
 
-// Two hexadecimal digits.
-fn say_byte(byte: u8) {
-    io::print_hex(STDOUT_FILENO, byte as u64, 2);
+fn say_start(digest: &[u8; 32]) {
+    let mut text = [0u8; 64];
+    append_hex(&mut text, 0, digest);
+    say(part(&text, 0, SHOWN));
 }
 
 // Both sessions: the call due or the verdict, the count, and a letter for each part that is not zero.

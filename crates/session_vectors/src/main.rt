@@ -4,8 +4,6 @@ mod card_calls;
 mod carrier_calls;
 mod line;
 
-ghost use mathlib.Core.Path.{_≡_};
-ghost use lib.ListN.{length};
 use crate::card_calls::card_call;
 use crate::carrier_calls::carrier_call;
 use crate::line::end_line;
@@ -19,15 +17,8 @@ const CARRIER: u8 = 16;
 fn main() {
     let mut file = cases::file_buffer();
     let length = io::read_full(0, &mut file);
-    let mut system = system_buffer();
+    let mut system = cases::system_buffer();
     run(&file[..length], &mut system);
-}
-
-// Zeros, with room for the largest system and one that is too long.
-fn system_buffer() -> [u8; 500000]
-    ensures { λ r. ⌜ 500000 ≡ length r ⌝ }
-{
-    [0; 500000]
 }
 
 // How a call went, and both sessions after it.
@@ -58,12 +49,13 @@ fn run(file: &[u8], system: &mut [u8]) {
 }
 
 fn make_call(file: &[u8], at: usize, system: &mut [u8], card: Card, carrier: Carrier) -> Step {
-    if cases::head_at(file, at).kind < CARRIER {
-        let step = card_call(file, at, system, card);
+    let head = cases::head_at(file, at);
+    if head.kind < CARRIER {
+        let step = card_call(file, head, system, card);
         let after = step.card;
         ended(step.outcome, after, carrier)
     } else {
-        let step = carrier_call(file, at, system, carrier);
+        let step = carrier_call(file, head, system, carrier);
         let after = step.carrier;
         ended(step.outcome, card, after)
     }
