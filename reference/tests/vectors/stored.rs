@@ -48,7 +48,9 @@ impl Reader<'_> {
     fn piece(&mut self) -> Vec<u8> {
         let [length, period, patches] = [self.number(), self.number(), self.number()];
         let pattern = self.bytes(period);
-        let mut bytes: Vec<u8> = (0..length).map(|i| pattern[i % period]).collect();
+        let mut bytes = pattern.repeat(length.div_ceil(period.max(1)));
+        bytes.truncate(length);
+        assert_eq!(bytes.len(), length, "no pattern");
         for _ in 0..patches {
             let offset = self.number();
             bytes[offset] = self.byte();
