@@ -14,22 +14,8 @@ pub struct CardStep {
     pub card: Card,
 }
 
-pub fn card_call(file: &[u8], head: Head, buffer: &mut [u8], card: Card) -> CardStep {
-    if head.kind == 15 {
-        return reply_call(file, head, card);
-    }
-    let system = cases::load(file, head.next, buffer);
-    system_call(
-        file,
-        head,
-        system.next,
-        part(buffer, 0, system.length),
-        card,
-    )
-}
-
-// The calls that begin with a system.
-fn system_call<'a>(
+// The call whose pieces, behind a system if it has one, start at `at`.
+pub fn card_call<'a>(
     file: &'a [u8],
     head: Head,
     at: usize,
@@ -41,6 +27,7 @@ fn system_call<'a>(
         12 => open_call(file, head, at, system, card),
         13 => commit_call(file, head, at, system, card),
         14 => answer_call(file, head, at, system, card),
+        15 => reply_call(file, head, at, card),
         _ => no_call(card),
     }
 }
@@ -133,8 +120,8 @@ fn answer_call<'a>(file: &'a [u8], head: Head, at: usize, system: &'a [u8], old:
     put_out(b"answer ", head.number, expected, answer, out)
 }
 
-fn reply_call(file: &[u8], head: Head, old: Card) -> CardStep {
-    let challenge = cases::load_byte(file, head.next);
+fn reply_call(file: &[u8], head: Head, at: usize, old: Card) -> CardStep {
+    let challenge = cases::load_byte(file, at);
     let expected = cases::load_small(file, challenge.next);
     if expected.next == 0 {
         return no_call(old);

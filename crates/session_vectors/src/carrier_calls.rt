@@ -20,32 +20,19 @@ pub struct CarrierStep {
     pub carrier: Carrier,
 }
 
-pub fn carrier_call(file: &[u8], head: Head, buffer: &mut [u8], carrier: Carrier) -> CarrierStep {
-    if head.kind != 16 && head.kind != 21 {
-        return message_call(file, head, carrier);
-    }
-    let system = cases::load(file, head.next, buffer);
-    system_call(
-        file,
-        head,
-        system.next,
-        part(buffer, 0, system.length),
-        carrier,
-    )
-}
-
-// The calls that begin with a system.
-fn system_call<'a>(
+// The call whose pieces, behind a system if it has one, start at `at`.
+pub fn carrier_call<'a>(
     file: &'a [u8],
     head: Head,
     at: usize,
     system: &'a [u8],
     carrier: Carrier,
 ) -> CarrierStep {
-    if head.kind == 16 {
-        open_call(file, head, at, system, carrier)
-    } else {
-        judge_call(file, head, at, system, carrier)
+    let kind = head.kind;
+    match kind {
+        16 => open_call(file, head, at, system, carrier),
+        21 => judge_call(file, head, at, system, carrier),
+        _ => message_call(file, head, at, carrier),
     }
 }
 
@@ -92,8 +79,8 @@ fn open_call<'a>(
 }
 
 // The calls with one message.
-fn message_call(file: &[u8], head: Head, old: Carrier) -> CarrierStep {
-    let message = cases::load_small(file, head.next);
+fn message_call(file: &[u8], head: Head, at: usize, old: Carrier) -> CarrierStep {
+    let message = cases::load_small(file, at);
     let bytes = message.bytes;
     let next = message.next;
     if next == 0 {

@@ -9,7 +9,9 @@ use crate::carrier_calls::carrier_call;
 use crate::line::end_line;
 use card::Card;
 use carrier::Carrier;
+use cases::Head;
 use cases::Outcome;
+use slices::part;
 
 // The kind of the carrier's first call; those of the card's are below.
 const CARRIER: u8 = 16;
@@ -48,14 +50,35 @@ fn run(file: &[u8], system: &mut [u8]) {
     }
 }
 
-fn make_call(file: &[u8], at: usize, system: &mut [u8], card: Card, carrier: Carrier) -> Step {
+// The calls that begin with a system, and those that do not.
+fn make_call(file: &[u8], at: usize, buffer: &mut [u8], card: Card, carrier: Carrier) -> Step {
     let head = cases::head_at(file, at);
+    let kind = head.kind;
+    match kind {
+        12..=14 | 16 | 21 => {
+            let system = cases::load(file, head.next, buffer);
+            let lent = part(buffer, 0, system.length);
+            call(file, head, system.next, lent, card, carrier)
+        }
+        _ => call(file, head, head.next, b"", card, carrier),
+    }
+}
+
+// The call whose pieces, behind a system if it has one, start at `at`.
+fn call<'a>(
+    file: &'a [u8],
+    head: Head,
+    at: usize,
+    system: &'a [u8],
+    card: Card,
+    carrier: Carrier,
+) -> Step {
     if head.kind < CARRIER {
-        let step = card_call(file, head, system, card);
+        let step = card_call(file, head, at, system, card);
         let after = step.card;
         ended(step.outcome, after, carrier)
     } else {
-        let step = carrier_call(file, head, system, carrier);
+        let step = carrier_call(file, head, at, system, carrier);
         let after = step.carrier;
         ended(step.outcome, card, after)
     }
