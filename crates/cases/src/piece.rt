@@ -2,7 +2,7 @@
 // changed at single places.
 ghost use mathlib.Core.Path.{_≡_};
 ghost use Prim.Native.Nat.{_+_, _-_, _≤_, _<_};
-ghost use lib.ListN.{length, replicate};
+ghost use lib.ListN.{length, take, replicate};
 ghost use Rattle.io.specs.Counts.{Counts};
 ghost use Rattle.cases.specs.Piece.{number as Piece·number, Placed};
 
@@ -82,7 +82,7 @@ pub fn load(file: &[u8], at: usize, buffer: &mut [u8]) -> Loaded
     if expand(
         &file[pattern..patches],
         &file[patches..next],
-        &mut buffer[..length],
+        front(buffer, length),
     ) {
         Loaded { length, next }
     } else {
@@ -116,12 +116,14 @@ pub fn load_byte(file: &[u8], at: usize) -> Byte {
     }
 }
 
-// The first bytes of an output's buffer: those of the output expected.
-pub fn front(buffer: &mut [u8], length: usize) -> &mut [u8] {
-    if buffer.len() <= length {
+// At most the first `count` bytes of a buffer, to be written: what there is of them.
+pub fn front(buffer: &mut [u8], count: usize) -> &mut [u8]
+    ensures { λ r. ⌜ now r ≡ take count (now (buffer .entry)) ⌝ }
+{
+    if buffer.len() <= count {
         return buffer;
     }
-    &mut buffer[..length]
+    &mut buffer[..count]
 }
 
 // Makes every byte of an output the case's fill.

@@ -1,7 +1,7 @@
--- `cases::piece::front` is safe: the part lies within the buffer. Assumes nothing.
+-- `cases::piece::front` meets its contract: a buffer that has no more bytes is its own front. Assumes nothing.
 use mathlib.Core.Path.{sym}
 use native.Mathlib.Omega.{arith}
-use lib.Seq.{length-take-le}
+use lib.Seq.{length-take-le, take-all}
 use borrow.Author.Needs.{needs}
 use Rattle.cases.proofs.piece.front.Statement.{statement}
 use Rattle.cases.proofs.piece.front.Tie as tie
@@ -10,6 +10,6 @@ pub front-spec : {M : Type 1} → statement M
 front-spec =
     tie.close
     (tie.spec
-    (λ c. search needs)
+    (λ c. sym (take-all (c .before .args .count) (c .before .args .buffer .now) (omega arith)))
     (λ c. sym (length-take-le _ _ (omega arith)))
     (λ c. search needs))
