@@ -20,7 +20,6 @@ pub use piece::head_at;
 pub use piece::load;
 pub use piece::load_byte;
 pub use piece::load_small;
-pub use piece::number_bytes;
 pub use run::Outcome;
 pub use run::Run;
 pub use run::after;

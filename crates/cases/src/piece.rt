@@ -199,20 +199,6 @@ pub fn number(file: &[u8], at: usize) -> usize
         + 16777216 * wide(file[at + 3])
 }
 
-// A number as four bytes, the lowest first.
-pub fn number_bytes(number: usize) -> [u8; 4] {
-    [
-        low(number),
-        low(number / 256),
-        low(number / 65536),
-        low(number / 16777216),
-    ]
-}
-
-fn low(number: usize) -> u8 {
-    (number % 256) as u8
-}
-
 pub fn wide(byte: u8) -> usize
     ensures { λ r. ⌜ (r ≡ byte) × (r < 256) ⌝ }
 {

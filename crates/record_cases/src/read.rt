@@ -2,10 +2,10 @@
 use cases::Head;
 use cases::Outcome;
 use cases::Small;
-use cases::number_bytes;
 use record::Body;
 use record::Layout;
 use record::Reading;
+use record::word;
 use slices::equal;
 use slices::part;
 
@@ -55,7 +55,7 @@ fn is_layout(layout: Layout, expected: Small) -> bool {
 
 // Are the bytes a body's offset and length?
 fn is_entry(body: Body, bytes: &[u8]) -> bool {
-    let offset = number_bytes(body.offset);
-    let length = number_bytes(body.length);
+    let offset = word(body.offset);
+    let length = word(body.length);
     equal(&offset, part(bytes, 0, 4)) && equal(&length, part(bytes, 4, ENTRY))
 }

@@ -5,11 +5,17 @@ use crate::compare::same_reply_five;
 use crate::compare::same_reply_three;
 use cases::Outcome;
 use cases::Small;
-use exchange::five_commitments;
+use exchange::Lent;
 use exchange::read_lent;
-use exchange::three_commitments;
-use exchange::three_reply;
 use field::from_slice;
+use round::Commitments;
+use round::Vectors;
+use round::card_three;
+use round::commitments_five;
+use round::commitments_three;
+use round::middle;
+use round::reply_five;
+use round::reply_three;
 use slices::byte_at;
 ghost use mathlib.Core.Path.{_≡_};
 ghost use Rattle.system.specs.System.{systemRefusal};
@@ -33,12 +39,41 @@ fn commits(system: &[u8], scheme: u8, s: Small, lent: Small, expected: Small) ->
     requires { ⌜ systemRefusal (now system) ≡ 0 ⌝ }
 {
     let secret = vector_of(s);
-    let bytes = lent.bytes;
+    let held = lent_of(system, lent);
     match scheme {
-        3 => same_commitments(three_commitments(system, secret, &bytes), expected, 96),
-        5 => same_commitments(five_commitments(system, secret, &bytes), expected, 64),
+        3 => same_commitments(commits_three(system, secret, held), expected, 96),
+        5 => same_commitments(commits_five(system, secret, held), expected, 64),
         _ => false,
     }
+}
+
+fn commits_three(system: &[u8], s: [u8; 96], lent: Lent) -> Commitments
+    requires { ⌜ systemRefusal (now system) ≡ 0 ⌝ }
+{
+    let n = byte_at(system, 1);
+    let m = byte_at(system, 2);
+    let rhos = lent.rhos;
+    commitments_three(n, m, vectors_three(system, s, lent), rhos)
+}
+
+fn commits_five(system: &[u8], s: [u8; 96], lent: Lent) -> Commitments
+    requires { ⌜ systemRefusal (now system) ≡ 0 ⌝ }
+{
+    let r0 = lent.r0;
+    let t0 = lent.t0;
+    let e0 = lent.e0;
+    let rhos = lent.rhos;
+    commitments_five(system, s, r0, t0, e0, rhos)
+}
+
+// The card's vectors in three passes.
+fn vectors_three(system: &[u8], s: [u8; 96], lent: Lent) -> Vectors
+    requires { ⌜ systemRefusal (now system) ≡ 0 ⌝ }
+{
+    let r0 = lent.r0;
+    let t0 = lent.t0;
+    let e0 = lent.e0;
+    card_three(system, s, r0, t0, e0)
 }
 
 pub fn answer_case<'a>(file: &'a [u8], number: u8, at: usize, system: &'a [u8]) -> Outcome
@@ -60,12 +95,11 @@ fn answers(system: &[u8], alpha: u8, lent: Small, expected: Small) -> bool
 {
     let n = byte_at(system, 1);
     let m = byte_at(system, 2);
-    let bytes = lent.bytes;
-    let held = read_lent(&bytes, n, m);
+    let held = lent_of(system, lent);
     let r0 = held.r0;
     let t0 = held.t0;
     let e0 = held.e0;
-    same_middle(round::middle(system, alpha, r0, t0, e0), expected, n, m)
+    same_middle(middle(system, alpha, r0, t0, e0), expected, n, m)
 }
 
 pub fn reply_case<'a>(file: &'a [u8], number: u8, at: usize, system: &'a [u8]) -> Outcome
@@ -87,26 +121,27 @@ pub fn reply_case<'a>(file: &'a [u8], number: u8, at: usize, system: &'a [u8]) -
 fn replies(system: &[u8], scheme: u8, s: Small, lent: Small, challenge: u8, expected: Small) -> bool
     requires { ⌜ systemRefusal (now system) ≡ 0 ⌝ }
 {
+    let q = byte_at(system, 0);
     let n = byte_at(system, 1);
     let m = byte_at(system, 2);
     let secret = vector_of(s);
-    let bytes = lent.bytes;
+    let held = lent_of(system, lent);
+    let r0 = held.r0;
+    let rhos = held.rhos;
     match scheme {
-        3 => same_reply_three(
-            three_reply(system, secret, &bytes, challenge),
-            expected,
-            n,
-            m,
-        ),
-        5 => {
-            let held = read_lent(&bytes, n, m);
-            let r0 = held.r0;
-            let rhos = held.rhos;
-            let made = round::reply_five(byte_at(system, 0), n, secret, r0, rhos, challenge);
-            same_reply_five(made, expected, n)
+        3 => {
+            let w = vectors_three(system, secret, held);
+            same_reply_three(reply_three(w, rhos, challenge), expected, n, m)
         }
+        5 => same_reply_five(reply_five(q, n, secret, r0, rhos, challenge), expected, n),
         _ => false,
     }
+}
+
+// What is lent for a round, from its piece.
+fn lent_of(system: &[u8], piece: Small) -> Lent {
+    let bytes = piece.bytes;
+    read_lent(&bytes, byte_at(system, 1), byte_at(system, 2))
 }
 
 // The vector of a piece.
