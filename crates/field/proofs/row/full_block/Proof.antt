@@ -1,58 +1,45 @@
--- The invariant of both loops: the running sum is that of the first i products, each at most 255 times 255. Assumes nothing.
-use Prim.Native.Nat.{_≤_, _-_, _*_}
+-- Two halves of 32 pairs. Assumes nothing.
+use Prim.Native.Nat.{_+_, _-_, _*_}
 use mathlib.Core.Path.{_≡_}
 use native.Mathlib.Omega.{arith}
+use lib.ListN.{length, take, drop}
+use Rattle.slices.proofs.Parts.{length-part}
 use Rattle.field.specs.Row.{products}
-use Rattle.field.proofs.Modulus.{byte-product}
-use Rattle.field.proofs.Rows.{products-start, products-step, products-end}
+use Rattle.field.proofs.Rows.{products-start, products-block, products-end}
 use borrow.Author.Needs.{needs}
 use Rattle.field.proofs.row.full_block.Statement.{statement}
 use Rattle.field.proofs.row.full_block.Tie as tie
-
-abbrev Inv-loop : tie.InvT-loop
-Inv-loop a b total₀ i₀ total i = (i ≤ 32) × (total ≤ 65025 * i) × (total ≡ products a b i)
-
-abbrev μ-loop : tie.MeasureT-loop
-μ-loop a b total₀ i₀ total i = 32 - i
-
-abbrev Inv-loop2 : tie.InvT-loop2
-Inv-loop2 a b total₀ i₀ total i = (i ≤ 64) × (total ≤ 65025 * i) × (total ≡ products a b i)
-
-abbrev μ-loop2 : tie.MeasureT-loop2
-μ-loop2 a b total₀ i₀ total i = 64 - i
-
-product : (c : tie.After-wide2 Inv-loop μ-loop Inv-loop2 μ-loop2) → c .before .before .wide .result * c .wide2 .result ≤ 65025
-product c = byte-product _ _ (c .before .before .wide .ensures .1) (c .wide2 .ensures .1)
-
-product2 : (c : tie.After-wide4 Inv-loop μ-loop Inv-loop2 μ-loop2) → c .before .before .wide3 .result * c .wide4 .result ≤ 65025
-product2 c = byte-product _ _ (c .before .before .wide3 .ensures .1) (c .wide4 .ensures .1)
 
 pub full-block-spec : {M : Type 1} → statement M
 full-block-spec =
     tie.close
     (tie.spec
-    Inv-loop
-    μ-loop
-    Inv-loop2
-    μ-loop2
-    (λ c. (omega arith, omega arith, products-start _ _))
-    (λ c. omega arith)
+    (λ c. search needs)
+    (λ c. search needs)
+    (λ c. search needs)
+    (λ c. search needs)
+    (λ c. search needs)
+    (λ c. search needs)
     (λ c κs. search needs)
-    (λ c. omega arith)
+    (λ c. search needs)
+    (λ c. search needs)
+    (λ c. search needs)
+    (λ c. search needs)
+    (λ c. search needs)
+    (λ c. search needs)
     (λ c κs. search needs)
-    (λ c. omega (arith, product c))
-    (λ c. omega (arith, product c))
-    (λ c. omega arith)
-    (λ c. omega arith)
-    (λ c. (omega arith, omega (arith, product c), products-step _ _ _ _ _ _ (c .before .before .before .before .before .loop .inv .2) (c .before .before .wide .ensures .0) (c .wide2 .ensures .0)))
-    (λ c. (omega arith, omega arith, c .before .loop .inv .2))
-    (λ c. omega arith)
-    (λ c κs. search needs)
-    (λ c. omega arith)
-    (λ c κs. search needs)
-    (λ c. omega (arith, product2 c))
-    (λ c. omega (arith, product2 c))
-    (λ c. omega arith)
-    (λ c. omega arith)
-    (λ c. (omega arith, omega (arith, product2 c), products-step _ _ _ _ _ _ (c .before .before .before .before .before .loop2 .inv .2) (c .before .before .wide3 .ensures .0) (c .wide4 .ensures .0)))
-    (λ c. (products-end _ _ (c .before .loop2 .i) _ _ (c .before .loop2 .inv .2) (omega arith), omega arith)))
+    (λ c. search needs)
+    (λ c.
+    let start = c .before .before .before .before .before .before .before .before in
+    let a = start .args .a .now in
+    let b = start .args .b .now in
+    let one = c .before .before .before .block in
+    let two = c .block2 in
+    let half = products-block a b 0 32 0 (one .result) (products-start a b) (omega arith) (omega (arith, start .pre .0)) (one .ensures .0) in
+    let is-half : one .result ≡ products a b 32 = omega (arith, half) in
+    let first-long : length (take (32 - 0) (drop 0 a)) ≡ 32 - 0 = length-part a 0 32 (omega arith) (omega (arith, start .pre .0)) in
+    let second-long : length (take (64 - 32) (drop 32 a)) ≡ 64 - 32 = length-part a 32 64 (omega arith) (omega (arith, start .pre .0)) in
+    (
+      products-end a b 64 _ _ (products-block a b 32 64 (one .result) (two .result) is-half (omega arith) (omega (arith, start .pre .0)) (two .ensures .0)) (omega (arith, start .pre .0)),
+      omega (arith, one .ensures .1, two .ensures .1, first-long, second-long),
+    )))

@@ -65,4 +65,4 @@ remainder-spec =
     (λ c κs. search needs)
     (λ c. let loop = c .before .before .before .before .before .loop in
     let a = c .before .before .before .before .before .before .before .before .args in
-    c .reduce-total .ensures ∙ ap (λ (t : ℕ). t % modulus (a .q)) (products-block (a .a .now) (a .b .now) (loop .at) (length (a .a .now)) _ _ (loop .inv .2) (omega arith) (le-refl _) (c .before .short-block .ensures .0))))
+    c .reduce-total .ensures ∙ ap (λ (t : ℕ). t % modulus (a .q)) (products-block (a .a .now) (a .b .now) (loop .at) (length (a .a .now)) _ _ (loop .inv .2) (omega arith) (le-refl _) (c .before .block .ensures .0))))

@@ -7,8 +7,8 @@ use lib.ListN.{length}
 use Rattle.field.specs.Row.{products}
 use Rattle.field.proofs.Modulus.{byte-product}
 use Rattle.field.proofs.Rows.{products-start, products-step, products-end}
-use Rattle.field.proofs.row.short_block.Statement.{statement}
-use Rattle.field.proofs.row.short_block.Tie as tie
+use Rattle.field.proofs.row.block.Statement.{statement}
+use Rattle.field.proofs.row.block.Tie as tie
 
 abbrev Inv-loop : tie.InvT-loop
 Inv-loop a b total₀ i₀ total i = (i ≤ length a) × (total ≤ 65025 * i) × (total ≡ products a b i)
@@ -19,8 +19,8 @@ abbrev μ-loop : tie.MeasureT-loop
 product : (c : tie.After-wide2 Inv-loop μ-loop) → c .before .before .wide .result * c .wide2 .result ≤ 65025
 product c = byte-product _ _ (c .before .before .wide .ensures .1) (c .wide2 .ensures .1)
 
-pub short-block-spec : {M : Type 1} → statement M
-short-block-spec =
+pub block-spec : {M : Type 1} → statement M
+block-spec =
     tie.close
     (tie.spec
     Inv-loop
