@@ -40,7 +40,3 @@ good-not-refused b l e = sym (reading-number b) ∙ ap refusalOf (sym e)
 pub good-layout : (b : List ℕ) (l : Layout) → Good l ≡ readingOf b → l ≡ layoutOf (headerIn b)
 unfolding layoutIn layoutOf
 good-layout b l e = ap (λ (r : Reading). layoutIn r l) (e ∙ reading-good b (good-not-refused b l e))
-
-pub refused-number : (b : List ℕ) (k : ℕ) → Refused k ≡ readingOf b → k ≡ recordRefusal b
-unfolding refusalOf
-refused-number b k e = ap refusalOf e ∙ reading-number b

@@ -1,9 +1,8 @@
 -- `cases::piece::patch` is safe and ends: `at` stays within the patches. Assumes nothing.
-use Prim.Native.Nat.{_≤_, _<_, _-_}
+use Prim.Native.Nat.{_≤_, _-_}
 use mathlib.Core.Path.{_≡_}
-use native.Mathlib.Omega.{arith}
 use borrow.Author.Needs.{needs}
-use lib.ListN.{length, length-set}
+use lib.ListN.{length}
 use Rattle.cases.proofs.piece.patch.Statement.{statement}
 use Rattle.cases.proofs.piece.patch.Tie as tie
 

@@ -1,5 +1,5 @@
 -- Two halves of 32 pairs. Assumes nothing.
-use Prim.Native.Nat.{_+_, _-_, _*_}
+use Prim.Native.Nat.{_-_}
 use mathlib.Core.Path.{_≡_}
 use native.Mathlib.Omega.{arith}
 use lib.ListN.{length, take, drop}
