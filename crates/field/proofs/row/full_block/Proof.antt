@@ -38,8 +38,7 @@ full-block-spec =
     let half = products-block a b 0 32 0 (one .result) (products-start a b) (omega arith) (omega (arith, start .pre .0)) (one .ensures .0) in
     let is-half : one .result ≡ products a b 32 = omega (arith, half) in
     let first-long : length (take (32 - 0) (drop 0 a)) ≡ 32 - 0 = length-part a 0 32 (omega arith) (omega (arith, start .pre .0)) in
-    let second-long : length (take (64 - 32) (drop 32 a)) ≡ 64 - 32 = length-part a 32 64 (omega arith) (omega (arith, start .pre .0)) in
-    (
+    let second-long : length (take (64 - 32) (drop 32 a)) ≡ 64 - 32 = length-part a 32 64 (omega arith) (omega (arith, start .pre .0)) in (
       products-end a b 64 _ _ (products-block a b 32 64 (one .result) (two .result) is-half (omega arith) (omega (arith, start .pre .0)) (two .ensures .0)) (omega (arith, start .pre .0)),
       omega (arith, one .ensures .1, two .ensures .1, first-long, second-long),
     )))
