@@ -134,12 +134,12 @@ fn alpha_refusal(card: Card, system: &[u8], alpha: u8, out_len: usize) -> u8
 {
     let phase = card.phase;
     let state = state_refusal(phase_number(phase), 2);
-    let front = lent_refusal(system, card.q, card.n, card.m);
+    let lent = lent_refusal(system, card.q, card.n, card.m);
     let back = first(
         unless(out_len == card.n as usize + card.m as usize, 2),
         unless(alpha < card.q, 3),
     );
-    first(state, first(front, back))
+    first(state, first(lent, back))
 }
 
 // Five passes: writes t1 and e1 for α to `out`.
