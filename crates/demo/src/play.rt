@@ -24,7 +24,7 @@ pub struct Terms {
     pub m: u8,
 }
 
-// Both sessions, and whether a call was refused.
+// Both sessions, and whether a call was refused. The calls behind a refused one are still made, and nothing comes of them.
 pub struct Ends {
     pub card: Card,
     pub carrier: Carrier,
@@ -166,94 +166,77 @@ fn with_reply(t: Terms, ends: Ends, system: &[u8], challenge: u8, exchange: &mut
 
 // The card commits, and the carrier takes the commitments.
 fn commit<'a>(ends: Ends, system: &'a [u8], lent: &'a [u8], out: &mut [u8]) -> Ends {
-    if ends.refused {
-        return ends;
-    }
-    let old_card = ends.card;
-    let old_carrier = ends.carrier;
-    let sent = card::commit(old_card, system, lent, out);
-    if sent.refusal != 0 {
-        return refused(ends, sent.refusal, b"card commit");
-    }
-    let taken = carrier::take_commitments(old_carrier, out);
-    if taken.refusal != 0 {
-        return refused(ends, taken.refusal, b"carrier take commitments");
-    }
+    let old = ends.card;
+    let sent = card::commit(old, system, lent, out);
     let card = sent.card;
+    let ends = card_answered(ends, card, sent.refusal, b"card commit");
+    let old = ends.carrier;
+    let taken = carrier::take_commitments(old, out);
     let carrier = taken.carrier;
-    Ends {
-        card,
-        carrier,
-        refused: false,
-    }
+    carrier_answered(ends, carrier, taken.refusal, b"carrier take commitments")
 }
 
 // The carrier sets α, the card answers with t1 and e1, and the carrier takes them.
 fn answer(ends: Ends, system: &[u8], alpha: u8, out: &mut [u8]) -> Ends {
-    if ends.refused {
-        return ends;
-    }
-    let old_card = ends.card;
-    let old_carrier = ends.carrier;
-    let set = carrier::set_alpha(old_carrier, alpha);
-    if set.refusal != 0 {
-        return refused(ends, set.refusal, b"carrier set alpha");
-    }
-    let sent = card::answer_alpha(old_card, system, alpha, out);
-    if sent.refusal != 0 {
-        return refused(ends, sent.refusal, b"card answer alpha");
-    }
-    let asked = set.carrier;
-    let taken = carrier::take_middle(asked, out);
-    if taken.refusal != 0 {
-        return refused(ends, taken.refusal, b"carrier take t1 and e1");
-    }
+    let old = ends.carrier;
+    let set = carrier::set_alpha(old, alpha);
+    let carrier = set.carrier;
+    let ends = carrier_answered(ends, carrier, set.refusal, b"carrier set alpha");
+    let old = ends.card;
+    let sent = card::answer_alpha(old, system, alpha, out);
     let card = sent.card;
+    let ends = card_answered(ends, card, sent.refusal, b"card answer alpha");
+    let old = ends.carrier;
+    let taken = carrier::take_middle(old, out);
     let carrier = taken.carrier;
-    Ends {
-        card,
-        carrier,
-        refused: false,
-    }
+    carrier_answered(ends, carrier, taken.refusal, b"carrier take t1 and e1")
 }
 
 // The carrier sets the challenge, the card replies, and the carrier takes the reply.
 fn reply(ends: Ends, system: &[u8], challenge: u8, out: &mut [u8]) -> Ends {
-    if ends.refused {
-        return ends;
-    }
-    let old_card = ends.card;
-    let old_carrier = ends.carrier;
-    let set = carrier::set_challenge(old_carrier, challenge);
-    if set.refusal != 0 {
-        return refused(ends, set.refusal, b"carrier set challenge");
-    }
-    let sent = card::reply(old_card, challenge, out);
-    if sent.refusal != 0 {
-        return refused(ends, sent.refusal, b"card reply");
-    }
-    let asked = set.carrier;
-    let judged = carrier::take_reply(asked, system, out);
-    if judged.refusal != 0 {
-        return refused(ends, judged.refusal, b"carrier take reply");
-    }
+    let old = ends.carrier;
+    let set = carrier::set_challenge(old, challenge);
+    let carrier = set.carrier;
+    let ends = carrier_answered(ends, carrier, set.refusal, b"carrier set challenge");
+    let old = ends.card;
+    let sent = card::reply(old, challenge, out);
     let card = sent.card;
+    let ends = card_answered(ends, card, sent.refusal, b"card reply");
+    let old = ends.carrier;
+    let judged = carrier::take_reply(old, system, out);
     let carrier = judged.carrier;
+    carrier_answered(ends, carrier, judged.refusal, b"carrier take reply")
+}
+
+// Both ends after a call of the card's.
+fn card_answered(ends: Ends, card: Card, refusal: u8, call: &[u8]) -> Ends {
+    let carrier = ends.carrier;
     Ends {
         card,
         carrier,
-        refused: false,
+        refused: first_refusal(ends, refusal, call),
     }
 }
 
-// Says which call of which round was refused, the round being the one behind those accepted.
-fn refused(ends: Ends, number: u8, call: &[u8]) -> Ends {
+// Both ends after a call of the carrier's.
+fn carrier_answered(ends: Ends, carrier: Carrier, refusal: u8, call: &[u8]) -> Ends {
     let card = ends.card;
-    let carrier = ends.carrier;
-    say_refused_in(number, call, carrier.accepted);
     Ends {
         card,
         carrier,
-        refused: true,
+        refused: first_refusal(ends, refusal, call),
     }
+}
+
+// Whether a call was refused by now. The first refusal is said, with the call and its round, the one behind those accepted.
+fn first_refusal(ends: Ends, refusal: u8, call: &[u8]) -> bool {
+    if ends.refused {
+        return true;
+    }
+    if refusal == 0 {
+        return false;
+    }
+    let carrier = ends.carrier;
+    say_refused_in(refusal, call, carrier.accepted);
+    true
 }
