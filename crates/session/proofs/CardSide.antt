@@ -1,6 +1,6 @@
 -- The card's calls along an honest session: each leaves the two ends linked, and none is refused when it is due. Assumes nothing.
-use Prim.Native.Nat.{ℕ, _+_, _≤_, _<_}
-use mathlib.Core.Path.{_≡_, refl, ap, _∙_}
+use Prim.Native.Nat.{ℕ, zero, suc, _+_, _≤_, _<_}
+use mathlib.Core.Path.{_≡_, refl, sym, ap, subst, _∙_}
 use mathlib.Core.Bool.{Bool, true, false, cond}
 use mathlib.Core.List.{List}
 use mathlib.Core.Logic.{⊎-elim}
@@ -88,6 +88,56 @@ module _ (o : Opening) where
   due-is (St.is-ready lent h l e c cn m mn p) = ap (λ (k : Card). phaseNumber (k .phase)) e
   due-is (St.is-over h e p) = ap (λ (k : Card). phaseNumber (k .phase)) e
 
+  -- ---- what is known of the card where a call is due
+
+  record Fresh (g : Given) (card : Card) (r : ℕ) : Type 0 where
+    pub below : r < o .rounds
+    pub is : card ≡ St.freshCard o r
+    pub no-commitments : Clear (g .commitments) r
+    pub no-middles : Clear (g .middles) r
+    pub no-replies : Clear (g .replies) r
+
+  record Committed (g : Given) (card : Card) (r : ℕ) : Type 0 where
+    pub lent : List ℕ
+    pub below : r < o .rounds
+    pub five : o .scheme ≡ 3 → ⊥
+    pub lends : Lends (o .system) lent
+    pub is : card ≡ St.heldCard o AnswerAlpha r lent
+    pub commitments-given : g .commitments r ≡ some (St.commitmentsOf o lent)
+    pub no-more-commitments : Clear (g .commitments) (r + 1)
+    pub no-middles : Clear (g .middles) r
+    pub no-replies : Clear (g .replies) r
+
+  record Ready (g : Given) (a : Asked) (card : Card) (r : ℕ) : Type 0 where
+    pub lent : List ℕ
+    pub below : r < o .rounds
+    pub lends : Lends (o .system) lent
+    pub is : card ≡ St.heldCard o Reply r lent
+    pub commitments-given : g .commitments r ≡ some (St.commitmentsOf o lent)
+    pub no-more-commitments : Clear (g .commitments) (r + 1)
+    pub middle-given : St.MiddleGiven o g a r lent
+    pub no-more-middles : Clear (g .middles) (r + 1)
+    pub no-replies : Clear (g .replies) r
+
+  unfoldable Known : Given → Asked → Card → ℕ → ℕ → Type 0
+  Known g a card r zero = Unit
+  Known g a card r (suc zero) = Fresh g card r
+  Known g a card r (suc (suc zero)) = Committed g card r
+  Known g a card r (suc (suc (suc zero))) = Ready g a card r
+  Known g a card r (suc (suc (suc (suc k)))) = Unit
+
+  known : {g : Given} {a : Asked} {card : Card} {r : ℕ} (s : CardState o g a card r) → Known g a card r (due s)
+  unfolding due Known
+  known (St.is-fresh h e c m p) = record { below = h; is = e; no-commitments = c; no-middles = m; no-replies = p }
+  known (St.is-committed lent h other l e c cn m p) =
+      record { lent = lent; below = h; five = other; lends = l; is = e; commitments-given = c; no-more-commitments = cn; no-middles = m; no-replies = p }
+  known (St.is-ready lent h l e c cn m mn p) =
+      record { lent = lent; below = h; lends = l; is = e; commitments-given = c; no-more-commitments = cn; middle-given = m; no-more-middles = mn; no-replies = p }
+  known (St.is-over h e p) = tt
+
+  known-at : (g : Given) (a : Asked) (card : Card) (r : ℕ) → CardState o g a card r → (k : ℕ) → phaseNumber (card .phase) ≡ k → Known g a card r k
+  known-at g a card r s k phase = subst (Known g a card r) (sym (due-is s) ∙ phase) (known s)
+
   -- ---- a call of the card leaves the ends linked
 
   moved : (w : World) (card : Card) (r : ℕ) (g : Given) → Link o w → GivenStays o (w .given) g → w .cardRound ≤ r → CardState o g (w .asked) card r →
@@ -102,23 +152,6 @@ module _ (o : Opening) where
 
   abbrev pub withCommitments : Given → ℕ → List ℕ → Given
   withCommitments g r c = record { commitments = put (g .commitments) r c; middles = g .middles; replies = g .replies }
-
-  -- what a card that may commit is, and that nothing is given for its round
-  record Fresh (g : Given) (card : Card) (r : ℕ) : Type 0 where
-    pub below : r < o .rounds
-    pub is : card ≡ St.freshCard o r
-    pub no-commitments : Clear (g .commitments) r
-    pub no-middles : Clear (g .middles) r
-    pub no-replies : Clear (g .replies) r
-
-  fresh : {g : Given} {a : Asked} {card : Card} {r : ℕ} → CardState o g a card r → phaseNumber (card .phase) ≡ 1 → Fresh g card r
-  unfolding due
-  fresh (St.is-fresh h e c m p) k = record { below = h; is = e; no-commitments = c; no-middles = m; no-replies = p }
-  fresh {g = g} {a = a} {card = card} {r = r} (St.is-committed lent h other l e c cn m p) k =
-      absurd (omega (arith, k, due-is {g = g} {a = a} {card = card} {r = r} (St.is-committed lent h other l e c cn m p)))
-  fresh {g = g} {a = a} {card = card} {r = r} (St.is-ready lent h l e c cn m mn p) k =
-      absurd (omega (arith, k, due-is {g = g} {a = a} {card = card} {r = r} (St.is-ready lent h l e c cn m mn p)))
-  fresh {g = g} {a = a} {card = card} {r = r} (St.is-over h e p) k = absurd (omega (arith, k, due-is {g = g} {a = a} {card = card} {r = r} (St.is-over h e p)))
 
   lends-of : (card : Card) (r : ℕ) (lent : List ℕ) → card ≡ St.freshCard o r → allBelow (card .q) (take (card .n + card .n + card .m) lent) ≡ true → Lends (o .system) lent
   unfolding St.freshCard cardWith openedCard
@@ -140,9 +173,10 @@ module _ (o : Opening) where
 
   pub commit-linked : (w : World) (lent : List ℕ) (out : ℕ) → Link o w → commitRefusal (w .card) (o .system) lent out ≡ 0 →
       Link o (cardMoves w (committedCard (w .card) (o .system) lent) (w .cardRound) (withCommitments (w .given) (w .cardRound) (sentCommitments (w .card) (o .system) lent)))
+  unfolding Known
   commit-linked w lent out l none =
       let k = commit-taken (w .card) (o .system) lent out none in
-      let f = fresh (l .card-state) (k .due) in
+      let f : Fresh (w .given) (w .card) (w .cardRound) = known-at _ _ _ _ (l .card-state) 1 (k .due) in
       let lends = lends-of (w .card) (w .cardRound) lent (f .is) (k .elements) in
       let stays = commitments-stay (w .given) (w .cardRound) (sentCommitments (w .card) (o .system) lent) (f .no-commitments) in
       moved w _ (w .cardRound) _ l stays (le-refl _) (committed-state (w .given) (w .asked) (w .card) (w .cardRound) lent f lends) (kept-past w _ l stays)
@@ -151,26 +185,6 @@ module _ (o : Opening) where
 
   abbrev pub withMiddles : Given → ℕ → List ℕ → Given
   withMiddles g r l = record { commitments = g .commitments; middles = put (g .middles) r l; replies = g .replies }
-
-  record Committed (g : Given) (card : Card) (r : ℕ) : Type 0 where
-    pub lent : List ℕ
-    pub below : r < o .rounds
-    pub five : o .scheme ≡ 3 → ⊥
-    pub lends : Lends (o .system) lent
-    pub is : card ≡ St.heldCard o AnswerAlpha r lent
-    pub commitments-given : g .commitments r ≡ some (St.commitmentsOf o lent)
-    pub no-more-commitments : Clear (g .commitments) (r + 1)
-    pub no-middles : Clear (g .middles) r
-    pub no-replies : Clear (g .replies) r
-
-  committed : {g : Given} {a : Asked} {card : Card} {r : ℕ} → CardState o g a card r → phaseNumber (card .phase) ≡ 2 → Committed g card r
-  unfolding due
-  committed (St.is-committed lent h other l e c cn m p) k =
-      record { lent = lent; below = h; five = other; lends = l; is = e; commitments-given = c; no-more-commitments = cn; no-middles = m; no-replies = p }
-  committed {g = g} {a = a} {card = card} {r = r} (St.is-fresh h e c m p) k = absurd (omega (arith, k, due-is {g = g} {a = a} {card = card} {r = r} (St.is-fresh h e c m p)))
-  committed {g = g} {a = a} {card = card} {r = r} (St.is-ready lent h l e c cn m mn p) k =
-      absurd (omega (arith, k, due-is {g = g} {a = a} {card = card} {r = r} (St.is-ready lent h l e c cn m mn p)))
-  committed {g = g} {a = a} {card = card} {r = r} (St.is-over h e p) k = absurd (omega (arith, k, due-is {g = g} {a = a} {card = card} {r = r} (St.is-over h e p)))
 
   answered-state : (g : Given) (a : Asked) (card : Card) (r α : ℕ) → Committed g card r → a .alphas r ≡ some α →
       CardState o (withMiddles g r (sentMiddle card (o .system) α)) a (answeredCard card) r
@@ -182,8 +196,9 @@ module _ (o : Opening) where
 
   pub answer-linked : (w : World) (α out : ℕ) → Link o w → alphaRefusal (w .card) (o .system) α out ≡ 0 → w .asked .alphas (w .cardRound) ≡ some α →
       Link o (cardMoves w (answeredCard (w .card)) (w .cardRound) (withMiddles (w .given) (w .cardRound) (sentMiddle (w .card) (o .system) α)))
+  unfolding Known
   answer-linked w α out l none asked =
-      let f = committed (l .card-state) (alpha-taken (w .card) (o .system) α out none .due) in
+      let f : Committed (w .given) (w .card) (w .cardRound) = known-at _ _ _ _ (l .card-state) 2 (alpha-taken (w .card) (o .system) α out none .due) in
       let stays : GivenStays o (w .given) (withMiddles (w .given) (w .cardRound) (sentMiddle (w .card) (o .system) α)) =
       record { commitments-stay = λ k x e. e; middles-stay = put-stays (w .given .middles) (w .cardRound) _ (f .no-middles); replies-stay = λ k x e. e } in
       moved w _ (w .cardRound) _ l stays (le-refl _) (answered-state (w .given) (w .asked) (w .card) (w .cardRound) α f asked) (kept-past w _ l stays)
@@ -192,26 +207,6 @@ module _ (o : Opening) where
 
   abbrev pub withReplies : Given → ℕ → List ℕ → Given
   withReplies g r l = record { commitments = g .commitments; middles = g .middles; replies = put (g .replies) r l }
-
-  record Ready (g : Given) (a : Asked) (card : Card) (r : ℕ) : Type 0 where
-    pub lent : List ℕ
-    pub below : r < o .rounds
-    pub lends : Lends (o .system) lent
-    pub is : card ≡ St.heldCard o Reply r lent
-    pub commitments-given : g .commitments r ≡ some (St.commitmentsOf o lent)
-    pub no-more-commitments : Clear (g .commitments) (r + 1)
-    pub middle-given : St.MiddleGiven o g a r lent
-    pub no-more-middles : Clear (g .middles) (r + 1)
-    pub no-replies : Clear (g .replies) r
-
-  ready : {g : Given} {a : Asked} {card : Card} {r : ℕ} → CardState o g a card r → phaseNumber (card .phase) ≡ 3 → Ready g a card r
-  unfolding due
-  ready (St.is-ready lent h l e c cn m mn p) k =
-      record { lent = lent; below = h; lends = l; is = e; commitments-given = c; no-more-commitments = cn; middle-given = m; no-more-middles = mn; no-replies = p }
-  ready {g = g} {a = a} {card = card} {r = r} (St.is-fresh h e c m p) k = absurd (omega (arith, k, due-is {g = g} {a = a} {card = card} {r = r} (St.is-fresh h e c m p)))
-  ready {g = g} {a = a} {card = card} {r = r} (St.is-committed lent h other l e c cn m p) k =
-      absurd (omega (arith, k, due-is {g = g} {a = a} {card = card} {r = r} (St.is-committed lent h other l e c cn m p)))
-  ready {g = g} {a = a} {card = card} {r = r} (St.is-over h e p) k = absurd (omega (arith, k, due-is {g = g} {a = a} {card = card} {r = r} (St.is-over h e p)))
 
   rounds-kept : (r : ℕ) (lent : List ℕ) → St.heldCard o Reply r lent .rounds ≡ o .rounds
   unfolding St.heldCard cardWith openedCard
@@ -254,10 +249,11 @@ module _ (o : Opening) where
   pub reply-linked : (w : World) (challenge out : ℕ) → Link o w → o .rounds < 256 → replyRefusal (w .card) challenge out ≡ 0 →
       w .asked .challenges (w .cardRound) ≡ some challenge →
       Link o (cardMoves w (repliedCard (w .card)) (w .cardRound + 1) (withReplies (w .given) (w .cardRound) (sentReply (w .card) challenge)))
+  unfolding Known
   reply-linked w challenge out l small none asked =
       let r = w .cardRound in
       let k = reply-taken (w .card) challenge out none in
-      let f = ready (l .card-state) (k .due) in
+      let f : Ready (w .given) (w .asked) (w .card) r = known-at _ _ _ _ (l .card-state) 3 (k .due) in
       let g = withReplies (w .given) r (sentReply (w .card) challenge) in
       let scheme : w .card .scheme ≡ o .scheme = ap (λ (c : Card). c .scheme) (f .is) ∙ scheme-kept Reply r (f .lent) in
       let stays : GivenStays o (w .given) g =
@@ -282,27 +278,27 @@ module _ (o : Opening) where
     pub commit-goes : (w : World) (lent : List ℕ) (out : ℕ) → Link o w → phaseNumber (w .card .phase) ≡ 1 →
         length lent ≡ nOf (o .system) + nOf (o .system) + mOf (o .system) + commitmentsLength (o .scheme) → out ≡ commitmentsLength (o .scheme) →
         Elements (qOf (o .system)) (take (nOf (o .system) + nOf (o .system) + mOf (o .system)) lent) → commitRefusal (w .card) (o .system) lent out ≡ 0
-    unfolding St.freshCard cardWith openedCard phaseNumber
+    unfolding St.freshCard cardWith openedCard phaseNumber Known
     commit-goes w lent out l phase long room elements =
-        let f = fresh (l .card-state) phase in
+        let f : Fresh (w .given) (w .card) (w .cardRound) = known-at _ _ _ _ (l .card-state) 1 phase in
         ap (λ (k : Card). commitRefusal k (o .system) lent out) (f .is) ∙
         commit-due (St.freshCard o (w .cardRound)) (o .system) lent out
         (record { due = refl; good = good; fits = sizes-has (o .system) _ _ _ refl refl refl; lent-length = long; room = room; elements = at-all-below _ _ elements })
 
     pub answer-goes : (w : World) (α out : ℕ) → Link o w → phaseNumber (w .card .phase) ≡ 2 → out ≡ nOf (o .system) + mOf (o .system) → α < qOf (o .system) →
         alphaRefusal (w .card) (o .system) α out ≡ 0
-    unfolding St.heldCard cardWith openedCard phaseNumber
+    unfolding St.heldCard cardWith openedCard phaseNumber Known
     answer-goes w α out l phase room element =
-        let f = committed (l .card-state) phase in
+        let f : Committed (w .given) (w .card) (w .cardRound) = known-at _ _ _ _ (l .card-state) 2 phase in
         ap (λ (k : Card). alphaRefusal k (o .system) α out) (f .is) ∙
         alpha-due (St.heldCard o AnswerAlpha (w .cardRound) (f .lent)) (o .system) α out
         (record { due = refl; good = good; fits = sizes-has (o .system) _ _ _ refl refl refl; room = room; element = element })
 
     pub reply-goes : (w : World) (challenge out : ℕ) → Link o w → phaseNumber (w .card .phase) ≡ 3 →
         out ≡ replyLength (o .scheme) (nOf (o .system)) (mOf (o .system)) → challenge < challenges (o .scheme) → replyRefusal (w .card) challenge out ≡ 0
-    unfolding St.heldCard cardWith openedCard phaseNumber
+    unfolding St.heldCard cardWith openedCard phaseNumber Known
     reply-goes w challenge out l phase room value =
-        let f = ready (l .card-state) phase in
+        let f : Ready (w .given) (w .asked) (w .card) (w .cardRound) = known-at _ _ _ _ (l .card-state) 3 phase in
         let k = accepted (o .system) good in
         ap (λ (c : Card). replyRefusal c challenge out) (f .is) ∙
         reply-due (St.heldCard o Reply (w .cardRound) (f .lent)) challenge out
