@@ -1,14 +1,14 @@
-//! The card's session.
+//! Document 01, "Sessions": the card's end. Per round it commits, in five passes it answers α, and
+//! it replies to the challenge.
 
-use super::{length, Terms, Verdict};
+use super::{answered, check_length, due, Terms, Verdict};
 use crate::map::evaluate;
 use crate::refusal::{unless, Refusal};
 use crate::rounds;
 use crate::scheme::Scheme;
 use crate::system::System;
-use crate::vector::all_elements;
 
-/// The next call due.
+/// The call that is due, or the verdict of a closed session.
 #[derive(Clone, Copy, Debug, PartialEq, Eq)]
 pub enum Phase {
     Commit,
@@ -18,15 +18,7 @@ pub enum Phase {
     Closed(Verdict),
 }
 
-/// What the card holds in a round: the slice lent, and its reply to each challenge, since the
-/// system is not lent again for the reply.
-#[derive(Clone, Debug, PartialEq, Eq)]
-pub struct Held {
-    pub lent: Vec<u8>,
-    replies: Vec<Vec<u8>>,
-}
-
-/// A card's session. A closed one has no terms, no secret and no round: these are its zeros.
+/// A card's session. A closed one has no terms, no secret and the count 0.
 #[derive(Clone, Debug, PartialEq, Eq)]
 pub struct Card {
     pub phase: Phase,
@@ -34,36 +26,60 @@ pub struct Card {
     /// How many rounds are over.
     pub round: u8,
     pub s: Vec<u8>,
+    /// From a round's commitments to its reply.
     pub held: Option<Held>,
 }
 
-/// The session after a call, and the number of the call's refusal, 0 for none.
+/// What the card holds of a round.
+#[derive(Clone, Debug, PartialEq, Eq)]
+pub struct Held {
+    /// r0, t0, e0 and a ρ for each commitment.
+    pub lent: Vec<u8>,
+    /// The reply to each challenge. They are made with the commitments, since no system is lent to
+    /// a reply.
+    pub replies: Vec<Vec<u8>>,
+}
+
+/// The session after a call, and the call's number.
 pub type Answer = (Card, u8);
 
+impl Held {
+    fn new(system: &System, scheme: Scheme, s: &[u8], lent: &[u8]) -> Held {
+        let challenges = scheme.challenges();
+        let replies = challenges.map(|challenge| rounds::reply(system, scheme, s, lent, challenge));
+        Held {
+            lent: lent.to_vec(),
+            replies: replies.collect(),
+        }
+    }
+}
+
 impl Card {
-    /// Opens a session of so many rounds.
+    /// Opens a session of N rounds. A refused opening gives a closed one.
     pub fn open(system: &[u8], scheme: u8, rounds: u8, v: &[u8], s: &[u8]) -> Answer {
-        Card::closed().after(Card::opened(system, scheme, rounds, v, s))
+        let opened = Card::try_open(system, scheme, rounds, v, s);
+        answered(Card::closed(), opened)
     }
 
-    /// A round's commitments into `out`, from what is lent for it.
+    /// The commitments of a round into `out`, from the lent r0, t0, e0 and ρ.
     pub fn commit(self, system: &[u8], lent: &[u8], out: &mut [u8]) -> Answer {
-        let result = self.committed(system, lent, out);
-        self.after(result)
+        let committed = self.try_commit(system, lent, out);
+        answered(self, committed)
     }
 
-    /// t1, then e1 for α into `out`.
+    /// t1 and e1 for α into `out`, in five passes.
     pub fn answer(self, system: &[u8], alpha: u8, out: &mut [u8]) -> Answer {
-        let result = self.answered(system, alpha, out);
-        self.after(result)
+        let replied = self.try_answer(system, alpha, out);
+        answered(self, replied)
     }
 
-    /// The reply to a challenge into `out`.
+    /// The reply to a challenge into `out`. It ends the round.
     pub fn reply(self, challenge: u8, out: &mut [u8]) -> Answer {
-        let result = self.replied(challenge, out);
-        self.after(result)
+        let replied = self.try_reply(challenge, out);
+        answered(self, replied)
     }
 
+    /// After round N, and after a refused opening.
     fn closed() -> Card {
         Card {
             phase: Phase::Closed(Verdict::None),
@@ -74,93 +90,83 @@ impl Card {
         }
     }
 
-    /// The new session, or this one where the call is refused.
-    fn after(self, result: Result<Card, Refusal>) -> Answer {
-        match result {
-            Ok(card) => (card, 0),
-            Err(refusal) => (self, refusal.number()),
-        }
-    }
-
-    fn opened(system: &[u8], scheme: u8, rounds: u8, v: &[u8], s: &[u8]) -> Result<Card, Refusal> {
+    fn try_open(
+        system: &[u8],
+        scheme: u8,
+        rounds: u8,
+        v: &[u8],
+        s: &[u8],
+    ) -> Result<Card, Refusal> {
         let system = System::read(system)?;
-        let terms = Terms::new(&system, scheme, rounds)?;
-        length(v, system.m())?;
-        length(s, system.n)?;
-        unless(all_elements(system.field, v), Refusal::Element)?;
-        unless(all_elements(system.field, s), Refusal::Element)?;
+        let terms = Terms::of(&system, scheme, rounds)?;
+        check_length(v, terms.size.m)?;
+        check_length(s, terms.size.n)?;
+        terms.check_elements(v)?;
+        terms.check_elements(s)?;
         unless(evaluate(&system, s) == v, Refusal::Key)?;
         Ok(Card {
             phase: Phase::Commit,
             terms: Some(terms),
+            round: 0,
             s: s.to_vec(),
-            ..Card::closed()
+            held: None,
         })
     }
 
-    fn committed(&self, system: &[u8], lent: &[u8], out: &mut [u8]) -> Result<Card, Refusal> {
-        let terms = self.due(Phase::Commit)?;
+    fn try_commit(&self, system: &[u8], lent: &[u8], out: &mut [u8]) -> Result<Card, Refusal> {
+        let terms = due(self.terms, self.phase, Phase::Commit)?;
+        let Terms { scheme, size, .. } = terms;
         let system = terms.system(system)?;
-        let (scheme, size) = (terms.scheme, terms.size);
-        length(lent, scheme.lent_length(size))?;
-        length(out, scheme.commitments_length())?;
-        let vectors = &lent[..2 * size.n + size.m];
-        unless(all_elements(size.field, vectors), Refusal::Element)?;
+        check_length(lent, scheme.lent_length(size))?;
+        check_length(out, scheme.commitments_length())?;
+        terms.check_elements(&lent[..2 * size.n + size.m])?;
         out.copy_from_slice(&rounds::commit(&system, scheme, &self.s, lent));
-        let replies = scheme
-            .challenges()
-            .map(|challenge| rounds::reply(&system, scheme, &self.s, lent, challenge));
-        let held = Held {
-            lent: lent.to_vec(),
-            replies: replies.collect(),
-        };
         Ok(Card {
             phase: match scheme {
                 Scheme::ThreePass => Phase::Reply,
                 Scheme::FivePass => Phase::Answer,
             },
-            held: Some(held),
+            held: Some(Held::new(&system, scheme, &self.s, lent)),
             ..self.clone()
         })
     }
 
-    fn answered(&self, system: &[u8], alpha: u8, out: &mut [u8]) -> Result<Card, Refusal> {
-        let terms = self.due(Phase::Answer)?;
+    fn try_answer(&self, system: &[u8], alpha: u8, out: &mut [u8]) -> Result<Card, Refusal> {
+        let terms = due(self.terms, self.phase, Phase::Answer)?;
         let system = terms.system(system)?;
-        length(out, system.n + system.m())?;
-        unless(system.field.contains(alpha), Refusal::Element)?;
-        out.copy_from_slice(&rounds::answer(&system, alpha, &self.in_round().lent));
+        check_length(out, terms.answer_length())?;
+        terms.check_elements(&[alpha])?;
+        out.copy_from_slice(&rounds::answer(&system, alpha, &self.held().lent));
         Ok(Card {
             phase: Phase::Reply,
             ..self.clone()
         })
     }
 
-    fn replied(&self, challenge: u8, out: &mut [u8]) -> Result<Card, Refusal> {
-        let terms = self.due(Phase::Reply)?;
-        length(out, terms.scheme.reply_length(terms.size))?;
-        terms.challenge(challenge)?;
-        out.copy_from_slice(&self.in_round().replies[usize::from(challenge)]);
+    fn try_reply(&self, challenge: u8, out: &mut [u8]) -> Result<Card, Refusal> {
+        let terms = due(self.terms, self.phase, Phase::Reply)?;
+        check_length(out, terms.scheme.reply_length(terms.size))?;
+        terms.check_challenge(challenge)?;
+        out.copy_from_slice(&self.held().replies[usize::from(challenge)]);
+        Ok(self.after_round(terms))
+    }
+
+    /// What is held of the round that the card has committed to.
+    fn held(&self) -> &Held {
+        self.held.as_ref().expect("a round that has begun")
+    }
+
+    /// The next round's session, or after round N a closed one. Nothing is held of the round.
+    fn after_round(&self, terms: Terms) -> Card {
         let over = self.round + 1;
         if over == terms.rounds {
-            return Ok(Card::closed());
+            return Card::closed();
         }
-        Ok(Card {
+        Card {
             phase: Phase::Commit,
             round: over,
             held: None,
             ..self.clone()
-        })
-    }
-
-    /// The terms of an open session in which the call is due; 11 or 10 otherwise.
-    fn due(&self, phase: Phase) -> Result<Terms, Refusal> {
-        let terms = self.terms.ok_or(Refusal::Closed)?;
-        unless(self.phase == phase, Refusal::NotDue)?;
-        Ok(terms)
-    }
-
-    fn in_round(&self) -> &Held {
-        self.held.as_ref().expect("a round was begun")
+        }
     }
 }

@@ -1,16 +1,21 @@
-//! Document 01, "Sessions": both ends as values that are handed in and back.
+//! Document 01, "Sessions": the card's end and the carrier's. A call takes its session by value and
+//! hands it back with a number, 0 if the call is not refused. A refused call leaves session and
+//! output as they were; a refused opening gives a closed session.
 //!
-//! Every call checks in document 01's order: 11, 10; the system, 7; then the arguments, all 1, all
-//! 2, all 3, then 4, then 5. A refused call hands the session back as it was and writes nothing.
-
-pub mod card;
-pub mod carrier;
+//! What both ends share is here. Refusals have the order of document 01: 11, 10, those of the
+//! system, 7, all 1, all 2, all 3, 4, 5. A call on a session takes all sizes from the session, and
+//! an output is an argument with an exact length. What document 01 has zeroed is empty here.
 
 use crate::refusal::{unless, Refusal};
 use crate::scheme::Scheme;
 use crate::system::{Dimensions, System};
+use crate::vector::all_elements;
 
-/// How a session ended. A card's has none, nor has one whose opening was refused.
+pub mod card;
+pub mod carrier;
+
+/// What a closed session says of its rounds. A card's says none, and so does that of a refused
+/// opening.
 #[derive(Clone, Copy, Debug, PartialEq, Eq)]
 pub enum Verdict {
     None,
@@ -18,7 +23,7 @@ pub enum Verdict {
     Rejected,
 }
 
-/// What an open session was opened with, v and s aside.
+/// What an opening fixes for all rounds, each number among its values.
 #[derive(Clone, Copy, Debug, PartialEq, Eq)]
 pub struct Terms {
     pub scheme: Scheme,
@@ -28,35 +33,62 @@ pub struct Terms {
 }
 
 impl Terms {
-    /// The terms of an opening; 1 for the scheme or N.
-    fn new(system: &System, scheme: u8, rounds: u8) -> Result<Terms, Refusal> {
+    /// The terms of an opening with this system; 1 for the scheme or N.
+    fn of(system: &System, scheme: u8, rounds: u8) -> Result<Terms, Refusal> {
         let scheme = Scheme::of_byte(scheme).ok_or(Refusal::Value)?;
-        unless(rounds >= 1, Refusal::Value)?;
-        let size = system.dimensions();
+        unless(rounds > 0, Refusal::Value)?;
         Ok(Terms {
             scheme,
-            size,
+            size: system.dimensions(),
             rounds,
         })
     }
 
-    /// The system lent to a call: its own refusals, then 7 if it is not of the session's size.
-    fn system(&self, bytes: &[u8]) -> Result<System, Refusal> {
+    /// The system that is lent anew to a call: its own refusals, then 7.
+    fn system(self, bytes: &[u8]) -> Result<System, Refusal> {
         let system = System::read(bytes)?;
         unless(system.dimensions() == self.size, Refusal::Mismatch)?;
         Ok(system)
     }
 
-    /// 4 unless the scheme has the challenge.
-    fn challenge(&self, challenge: u8) -> Result<(), Refusal> {
-        unless(
-            self.scheme.challenges().contains(&challenge),
-            Refusal::Challenge,
-        )
+    /// 3, unless all bytes are elements.
+    fn check_elements(self, bytes: &[u8]) -> Result<(), Refusal> {
+        unless(all_elements(self.size.field, bytes), Refusal::Element)
+    }
+
+    /// 4, unless the scheme has this challenge.
+    fn check_challenge(self, challenge: u8) -> Result<(), Refusal> {
+        let known = self.scheme.challenges().contains(&challenge);
+        unless(known, Refusal::Challenge)
+    }
+
+    /// The bytes of t1 and e1 together.
+    fn answer_length(self) -> usize {
+        self.size.n + self.size.m
     }
 }
 
-/// 2 unless the slice has that length.
-fn length(slice: &[u8], length: usize) -> Result<(), Refusal> {
+/// The terms of a session in this phase, if the call is due in it: 11 if the session is closed and
+/// so has no terms, 10 if another call is due.
+fn due<Phase: PartialEq>(
+    terms: Option<Terms>,
+    phase: Phase,
+    call: Phase,
+) -> Result<Terms, Refusal> {
+    let terms = terms.ok_or(Refusal::Closed)?;
+    unless(phase == call, Refusal::NotDue)?;
+    Ok(terms)
+}
+
+/// 2, unless the slice has this length.
+fn check_length(slice: &[u8], length: usize) -> Result<(), Refusal> {
     unless(slice.len() == length, Refusal::Length)
+}
+
+/// What a call answers: the session after it, or the one before it and the refusal's number.
+fn answered<Session>(before: Session, after: Result<Session, Refusal>) -> (Session, u8) {
+    match after {
+        Ok(session) => (session, 0),
+        Err(refusal) => (before, refusal.number()),
+    }
 }
