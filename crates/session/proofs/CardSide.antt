@@ -57,11 +57,11 @@ module _ (o : Opening) where
   unfolding sentCommitments St.commitmentsOf St.freshCard cardWith openedCard
   sent-commitments-is r lent = refl
 
-  answered-is : (r : ℕ) (lent : List ℕ) → answeredCard (St.heldCard o AnswerAlpha r lent) ≡ St.heldCard o Reply r lent
+  pub answered-is : (r : ℕ) (lent : List ℕ) → answeredCard (St.heldCard o AnswerAlpha r lent) ≡ St.heldCard o Reply r lent
   unfolding answeredCard heldLent St.heldCard cardWith openedCard
   answered-is r lent = refl
 
-  sent-middle-is : (r : ℕ) (lent : List ℕ) (α : ℕ) → sentMiddle (St.heldCard o AnswerAlpha r lent) (o .system) α ≡ St.middleOf o lent α
+  pub sent-middle-is : (r : ℕ) (lent : List ℕ) (α : ℕ) → sentMiddle (St.heldCard o AnswerAlpha r lent) (o .system) α ≡ St.middleOf o lent α
   unfolding sentMiddle St.middleOf St.heldCard cardWith openedCard
   sent-middle-is r lent α = refl
 

@@ -1,5 +1,5 @@
--- Honest sessions are not empty: in three passes, for every opening that is not refused, every lent slice of elements and every challenge, the five calls of a round,
--- one behind the other, are an honest list of which none is refused. Assumes nothing.
+-- Honest sessions are not empty: for every opening that is not refused, everything that may be lent, every α and every challenge, the calls of a round, one
+-- behind the other, are an honest list of which none is refused. Three passes have five calls, and five passes eight. Assumes nothing.
 use Prim.Native.Nat.{ℕ, _+_, _<_}
 use mathlib.Core.Path.{_≡_, refl, sym, ap, subst, _∙_}
 use mathlib.Core.List.{List, [], _∷_}
@@ -10,149 +10,168 @@ use Rattle.system.specs.System.{qOf, nOf, mOf}
 use Rattle.system.proofs.SystemLayout.{all-below-at, at-all-below}
 use Rattle.scheme.specs.Scheme.{challenges, commitmentsLength, vectorsLength, rhosLength, replyLength}
 use Rattle.record.specs.Record.{Elements}
-use Rattle.honest.proofs.Honest.{Lends, three-commitments-long, three-reply-long, three-reply-below}
-use Rattle.card.specs.Card as CardCalls
-use Rattle.card.specs.Card.{phaseNumber, openedCard, committedCard, cardWith, sentCommitments, sentReply, openRefusal}
+use Rattle.honest.proofs.Honest.{Lends, three-commitments-long, three-reply-long, three-reply-below, middle-long, middle-elements, five-commitments-long, five-reply-long, five-reply-below}
+use Rattle.card.specs.declared.session.CardPhase.the-variants.{AnswerAlpha, Reply}
+use Rattle.card.specs.Card.{phaseNumber, openedCard, committedCard, answeredCard, cardWith, sentCommitments, sentMiddle, sentReply, openRefusal}
 use Rattle.carrier.specs.Carrier as CarrierCalls
-use Rattle.session.specs.Session.{Opening, Call, commit, reply, takeCommitments, setChallenge, takeReply, World, opened, refusal, effect, step, Unaltered, Honest, Due}
+use Rattle.session.specs.Session.{Opening, Call, commit, answerAlpha, reply, takeCommitments, setAlpha, takeMiddle, setChallenge, takeReply, World, opened, refusal, effect, step, Unaltered, Honest, Due}
 use Rattle.session.proofs.States as St
 use Rattle.session.proofs.States.{Link}
-use Rattle.card.specs.declared.session.CardPhase.the-variants.{Reply}
 use Rattle.session.proofs.Logs.{put-there}
-use Rattle.session.proofs.CardSide.{card-opens, committed-is, sent-commitments-is, sent-reply-is}
+use Rattle.session.proofs.CardSide.{card-opens, committed-is, answered-is, sent-commitments-is, sent-middle-is, sent-reply-is}
 use Rattle.session.proofs.HonestSession.{opens, start, effect-linked, due-goes}
 use Rattle.session.proofs.Verdicts.{Opens}
 
--- a call that is not refused has its effect, and one more call in front of an honest list
+-- ---- lists of calls none of which is refused
+
+-- each call in its turn is unaltered and not refused
+pub data Runs (o : Opening) : World → List Call → Type 0 where
+  done : (w : World) → Runs o w []
+  next : (w : World) (c : Call) (cs : List Call) → refusal w c ≡ 0 → Unaltered o w c → Runs o (effect w c) cs → Runs o w (c ∷ cs)
+
 went : (w : World) (c : Call) → refusal w c ≡ 0 → step w c ≡ effect w c
 unfolding step
 went w c none = kept-accepted (refusal w c) w (effect w c) none
 
-before : (o : Opening) (w : World) (c : Call) (cs : List Call) → refusal w c ≡ 0 → Unaltered o w c → Honest o (effect w c) cs → Honest o w (c ∷ cs)
+pub runs-honest : (o : Opening) {w : World} {cs : List Call} → Runs o w cs → Honest o w cs
 unfolding Honest
-before o w c cs none same rest = (λ e. same, subst (λ (next : World). Honest o next cs) (sym (went w c none)) rest)
+runs-honest o (done w) = tt
+runs-honest o (next w c cs none same rest) = (λ e. same, subst (λ (later : World). Honest o later cs) (sym (went w c none)) (runs-honest o rest))
 
-module _ (b v s lent : List ℕ) (rounds challenge : ℕ) where
-  abbrev pub three : Opening
-  three = record { system = b; scheme = 3; rounds = rounds; key = v; secret = s }
+-- a call that is due goes, and leaves the ends linked for those behind it
+goes : (o : Opening) → Opens o → (w : World) (c : Call) (cs : List Call) → Link o w → Due o w c → Unaltered o w c →
+    (Link o (effect w c) → Runs o (effect w c) cs) → Runs o w (c ∷ cs)
+goes o k w c cs l due same rest = let none = due-goes o k w c l due in next w c cs none same (rest (effect-linked o k w c l none same))
 
-  -- the calls, and both ends before each
-  abbrev pub committing : Call
-  committing = commit b lent 96
+-- ---- the calls of a round
 
-  abbrev pub w1 : World
-  w1 = effect (opened three) committing
+abbrev pub opening : ℕ → List ℕ → List ℕ → List ℕ → ℕ → Opening
+opening scheme b v s rounds = record { system = b; scheme = scheme; rounds = rounds; key = v; secret = s }
 
-  abbrev pub taking : Call
-  taking = takeCommitments (St.commitmentsOf three lent)
+module _ (o : Opening) (lent : List ℕ) (α challenge : ℕ) where
+  abbrev committing : Call
+  committing = commit (o .system) lent (commitmentsLength (o .scheme))
 
-  abbrev pub w2 : World
-  w2 = effect w1 taking
+  abbrev taking : Call
+  taking = takeCommitments (St.commitmentsOf o lent)
 
-  abbrev pub setting : Call
-  setting = setChallenge challenge
+  abbrev setting : Call
+  setting = setAlpha α
 
-  abbrev pub w3 : World
-  w3 = effect w2 setting
+  abbrev answering : Call
+  answering = answerAlpha (o .system) α (nOf (o .system) + mOf (o .system))
 
-  abbrev pub replying : Call
-  replying = reply challenge (nOf b + nOf b + mOf b + 64)
+  abbrev middling : Call
+  middling = takeMiddle (St.middleOf o lent α)
 
-  abbrev pub w4 : World
-  w4 = effect w3 replying
+  abbrev asking : Call
+  asking = setChallenge challenge
 
-  abbrev pub judging : Call
-  judging = takeReply b (St.replyOf three lent challenge)
+  abbrev replying : Call
+  replying = reply challenge (replyLength (o .scheme) (nOf (o .system)) (mOf (o .system)))
 
-  abbrev pub round : List Call
-  round = committing ∷ taking ∷ setting ∷ replying ∷ judging ∷ []
+  abbrev judging : Call
+  judging = takeReply (o .system) (St.replyOf o lent challenge)
 
-  -- the card after its commit
-  card-1 : w1 .card ≡ St.heldCard three Reply 0 lent
+  abbrev pub threeCalls : List Call
+  threeCalls = committing ∷ taking ∷ asking ∷ replying ∷ judging ∷ []
+
+  abbrev pub fiveCalls : List Call
+  fiveCalls = committing ∷ taking ∷ setting ∷ answering ∷ middling ∷ asking ∷ replying ∷ judging ∷ []
+
+  -- both ends after the first call, and what the card then gave
+  abbrev w1 : World
+  w1 = effect (opened o) committing
+
+  commitments-given : w1 .given .commitments 0 ≡ some (St.commitmentsOf o lent)
   unfolding effect opened
-  card-1 = ap (λ k. committedCard k b lent) (card-opens three) ∙ committed-is three 0 lent Reply refl
+  commitments-given = put-there _ 0 _ ∙ ap some (ap (λ c. sentCommitments c (o .system) lent) (card-opens o) ∙ sent-commitments-is o 0 lent)
 
-  commitments-1 : w1 .given .commitments 0 ≡ some (St.commitmentsOf three lent)
+-- ---- three passes
+
+module _ (b v s lent : List ℕ) (rounds challenge : ℕ) (taken : openRefusal b 3 rounds v s ≡ 0) (long : length lent ≡ nOf b + nOf b + mOf b + 96)
+    (elements : Elements (qOf b) (take (nOf b + nOf b + mOf b) lent)) (value : challenge < 3) where
+  abbrev three : Opening
+  three = opening 3 b v s rounds
+
+  k3 : Opens three
+  k3 = opens three taken
+
+  lends3 : Lends b lent
+  lends3 = at-all-below (qOf b) (take (nOf b + nOf b + mOf b) lent) elements
+
+  commitments-long : length (St.commitmentsOf three lent) ≡ commitmentsLength 3
+  unfolding St.commitmentsOf commitmentsLength
+  commitments-long = three-commitments-long b (k3 .good) (St.secretOf three) lent
+
+  reply-long : length (St.replyOf three lent challenge) ≡ replyLength 3 (nOf b) (mOf b)
+  unfolding St.replyOf replyLength vectorsLength rhosLength
+  reply-long = three-reply-long b (k3 .good) (St.secretOf three) lent lends3 challenge
+
+  reply-elements : Elements (qOf b) (take (vectorsLength 3 (nOf b) (mOf b)) (St.replyOf three lent challenge))
+  unfolding St.replyOf vectorsLength
+  reply-elements = all-below-at (qOf b) _ (three-reply-below b (k3 .good) (St.secretOf three) lent lends3 challenge)
+
+  card-1 : w1 three lent 0 challenge .card ≡ St.heldCard three Reply 0 lent
   unfolding effect opened
-  commitments-1 = put-there _ 0 _ ∙ ap some (ap (λ k. sentCommitments k b lent) (card-opens three) ∙ sent-commitments-is three 0 lent)
+  card-1 = ap (λ c. committedCard c b lent) (card-opens three) ∙ committed-is three 0 lent Reply refl
 
-  -- ---- where the card's opening is not refused and what is lent has its length and elements
+  pub three-runs : Runs three (opened three) (threeCalls three lent 0 challenge)
+  unfolding Due Unaltered effect opened openedCard committedCard cardWith phaseNumber commitmentsLength challenges CarrierCalls.openedCarrier CarrierCalls.withCommitments CarrierCalls.withChallenge CarrierCalls.carrierWith CarrierCalls.phaseNumber
+  three-runs =
+      goes three k3 _ _ _ (start three k3) (refl, refl, long, refl, elements) refl
+      (λ l1. goes three k3 _ _ _ l1 (refl, commitments-long) (commitments-given three lent 0 challenge)
+      (λ l2. goes three k3 _ _ _ l2 (refl, value) tt
+      (λ l3. goes three k3 _ _ _ l3 (refl, refl, value) (put-there _ 0 challenge)
+      (λ l4. goes three k3 _ _ _ l4 (refl, refl, reply-long, reply-elements) (refl, put-there _ 0 _ ∙ ap some (ap (λ c. sentReply c challenge) card-1 ∙ sent-reply-is three 0 lent challenge))
+      (λ l5. done _)))))
 
-  module _ (taken : openRefusal b 3 rounds v s ≡ 0) (long : length lent ≡ nOf b + nOf b + mOf b + 96)
-      (elements : Elements (qOf b) (take (nOf b + nOf b + mOf b) lent)) (value : challenge < 3) where
-    k : Opens three
-    k = opens three taken
+-- ---- five passes
 
-    lends : Lends b lent
-    lends = at-all-below (qOf b) (take (nOf b + nOf b + mOf b) lent) elements
+module _ (b v s lent : List ℕ) (rounds α challenge : ℕ) (taken : openRefusal b 5 rounds v s ≡ 0) (long : length lent ≡ nOf b + nOf b + mOf b + 64)
+    (elements : Elements (qOf b) (take (nOf b + nOf b + mOf b) lent)) (element : α < qOf b) (value : challenge < 2) where
+  abbrev five : Opening
+  five = opening 5 b v s rounds
 
-    commitments-long : length (St.commitmentsOf three lent) ≡ commitmentsLength 3
-    unfolding St.commitmentsOf commitmentsLength
-    commitments-long = three-commitments-long b (k .good) (St.secretOf three) lent
+  k5 : Opens five
+  k5 = opens five taken
 
-    reply-long : length (St.replyOf three lent challenge) ≡ replyLength 3 (nOf b) (mOf b)
-    unfolding St.replyOf replyLength vectorsLength rhosLength
-    reply-long = three-reply-long b (k .good) (St.secretOf three) lent lends challenge
+  lends5 : Lends b lent
+  lends5 = at-all-below (qOf b) (take (nOf b + nOf b + mOf b) lent) elements
 
-    reply-elements : Elements (qOf b) (take (vectorsLength 3 (nOf b) (mOf b)) (St.replyOf three lent challenge))
-    unfolding St.replyOf vectorsLength
-    reply-elements = all-below-at (qOf b) _ (three-reply-below b (k .good) (St.secretOf three) lent lends challenge)
+  two-long : length (St.commitmentsOf five lent) ≡ commitmentsLength 5
+  unfolding St.commitmentsOf commitmentsLength
+  two-long = five-commitments-long b (k5 .good) (St.secretOf five) lent
 
-    l0 : Link three (opened three)
-    l0 = start three k
+  middle-has-length : length (St.middleOf five lent α) ≡ nOf b + mOf b
+  unfolding St.middleOf
+  middle-has-length = middle-long b (k5 .good) lent lends5 α
 
-    goes-1 : refusal (opened three) committing ≡ 0
-    unfolding opened openedCard phaseNumber commitmentsLength Due
-    goes-1 = due-goes three k (opened three) committing l0 (refl, refl, long, refl, elements)
+  middle-has-elements : Elements (qOf b) (St.middleOf five lent α)
+  unfolding St.middleOf
+  middle-has-elements = all-below-at (qOf b) _ (middle-elements b (k5 .good) lent lends5 α)
 
-    l1 : Link three w1
-    unfolding Unaltered
-    l1 = effect-linked three k (opened three) committing l0 goes-1 refl
+  last-long : length (St.replyOf five lent challenge) ≡ replyLength 5 (nOf b) (mOf b)
+  unfolding St.replyOf replyLength vectorsLength rhosLength
+  last-long = five-reply-long b (k5 .good) (St.secretOf five) lent lends5 challenge
 
-    goes-2 : refusal w1 taking ≡ 0
-    unfolding effect opened CarrierCalls.openedCarrier CarrierCalls.phaseNumber Due
-    goes-2 = due-goes three k w1 taking l1 (refl, commitments-long)
+  last-elements : Elements (qOf b) (take (vectorsLength 5 (nOf b) (mOf b)) (St.replyOf five lent challenge))
+  unfolding St.replyOf vectorsLength
+  last-elements = all-below-at (qOf b) _ (five-reply-below b (k5 .good) (St.secretOf five) lent lends5 challenge)
 
-    l2 : Link three w2
-    unfolding Unaltered effect opened
-    l2 = effect-linked three k w1 taking l1 goes-2 commitments-1
+  card-committed : w1 five lent α challenge .card ≡ St.heldCard five AnswerAlpha 0 lent
+  unfolding effect opened
+  card-committed = ap (λ c. committedCard c b lent) (card-opens five) ∙ committed-is five 0 lent AnswerAlpha refl
 
-    goes-3 : refusal w2 setting ≡ 0
-    unfolding effect opened CarrierCalls.withCommitments CarrierCalls.carrierWith CarrierCalls.openedCarrier CarrierCalls.phaseNumber challenges Due
-    goes-3 = due-goes three k w2 setting l2 (refl, value)
-
-    l3 : Link three w3
-    unfolding Unaltered
-    l3 = effect-linked three k w2 setting l2 goes-3 tt
-
-    goes-4 : refusal w3 replying ≡ 0
-    unfolding effect opened committedCard cardWith phaseNumber replyLength vectorsLength rhosLength challenges openedCard Due
-    goes-4 = due-goes three k w3 replying l3 (refl, refl, value)
-
-    challenge-3 : w3 .asked .challenges 0 ≡ some challenge
-    unfolding effect opened
-    challenge-3 = put-there _ 0 challenge
-
-    l4 : Link three w4
-    unfolding Unaltered effect opened
-    l4 = effect-linked three k w3 replying l3 goes-4 challenge-3
-
-    reply-4 : w4 .given .replies 0 ≡ some (St.replyOf three lent challenge)
-    unfolding effect opened
-    reply-4 = put-there _ 0 _ ∙ ap some (ap (λ c. sentReply c challenge) card-1 ∙ sent-reply-is three 0 lent challenge)
-
-    goes-5 : refusal w4 judging ≡ 0
-    unfolding effect opened CarrierCalls.withCommitments CarrierCalls.withChallenge CarrierCalls.carrierWith CarrierCalls.openedCarrier CarrierCalls.phaseNumber Due
-    goes-5 = due-goes three k w4 judging l4 (refl, refl, reply-long, reply-elements)
-
-    pub honest-round : Honest three (opened three) round
-    unfolding Unaltered effect opened Honest
-    honest-round =
-        before three (opened three) committing (taking ∷ setting ∷ replying ∷ judging ∷ []) goes-1 refl
-        (before three w1 taking (setting ∷ replying ∷ judging ∷ []) goes-2 commitments-1
-        (before three w2 setting (replying ∷ judging ∷ []) goes-3 tt
-        (before three w3 replying (judging ∷ []) goes-4 challenge-3 (before three w4 judging [] goes-5 (refl, reply-4) tt))))
-
-    -- and none of the five is refused
-    pub none-refused : (refusal (opened three) committing ≡ 0) × (refusal w1 taking ≡ 0) × (refusal w2 setting ≡ 0) × (refusal w3 replying ≡ 0) × (refusal w4 judging ≡ 0)
-    none-refused = (goes-1, goes-2, goes-3, goes-4, goes-5)
+  pub five-runs : Runs five (opened five) (fiveCalls five lent α challenge)
+  unfolding Due Unaltered effect opened openedCard committedCard answeredCard cardWith phaseNumber commitmentsLength challenges CarrierCalls.openedCarrier CarrierCalls.withCommitments CarrierCalls.withAlpha CarrierCalls.withMiddle CarrierCalls.withChallenge CarrierCalls.carrierWith CarrierCalls.phaseNumber
+  five-runs =
+      goes five k5 _ _ _ (start five k5) (refl, refl, long, refl, elements) refl
+      (λ l1. goes five k5 _ _ _ l1 (refl, two-long) (commitments-given five lent α challenge)
+      (λ l2. goes five k5 _ _ _ l2 (refl, element) tt
+      (λ l3. goes five k5 _ _ _ l3 (refl, refl, refl, element) (refl, put-there _ 0 α)
+      (λ l4. goes five k5 _ _ _ l4 (refl, middle-has-length, middle-has-elements) (put-there _ 0 _ ∙ ap some (ap (λ c. sentMiddle c b α) card-committed ∙ sent-middle-is five 0 lent α))
+      (λ l5. goes five k5 _ _ _ l5 (refl, value) tt
+      (λ l6. goes five k5 _ _ _ l6 (refl, refl, value) (put-there _ 0 challenge)
+      (λ l7. goes five k5 _ _ _ l7 (refl, refl, last-long, last-elements) (refl, put-there _ 0 _ ∙ ap some (ap (λ c. sentReply c challenge) (ap answeredCard card-committed ∙ answered-is five 0 lent) ∙ sent-reply-is five 0 lent challenge))
+      (λ l8. done _))))))))
