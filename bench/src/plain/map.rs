@@ -88,7 +88,7 @@ pub fn f<const Q: u32>(system: &[u8], x: &[u8], out: &mut [u8]) {
     for (i, &left) in x.iter().enumerate() {
         let (products, later) = rest.split_at_mut(x.len() - i);
         for (product, &right) in products.iter_mut().zip(&x[i..]) {
-            *product = (u32::from(left) * u32::from(right) % Q) as u8;
+            *product = product_of::<Q>(left, right) as u8;
         }
         rest = later;
     }
@@ -103,12 +103,17 @@ pub fn g<const Q: u32>(system: &[u8], x: &[u8], y: &[u8], out: &mut [u8]) {
     for (i, (&x_i, &y_i)) in x.iter().zip(y).enumerate() {
         let (products, later) = rest.split_at_mut(x.len() - i);
         for (product, (&x_j, &y_j)) in products.iter_mut().zip(x[i..].iter().zip(&y[i..])) {
-            let both = u32::from(x_i) * u32::from(y_j) + u32::from(x_j) * u32::from(y_i);
-            *product = (both % Q) as u8;
+            let both = product_of::<Q>(x_i, y_j) + product_of::<Q>(x_j, y_i);
+            *product = (both % Q as u16) as u8;
         }
         rest = later;
     }
     times_rows::<Q>(system, x.len(), &row, out);
+}
+
+/// In 16 bits, which hold 255 × 255: twice the lanes of 32.
+fn product_of<const Q: u32>(a: u8, b: u8) -> u16 {
+    u16::from(a) * u16::from(b) % Q as u16
 }
 
 /// Each polynomial's coefficients times the monomials.
