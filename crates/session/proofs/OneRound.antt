@@ -61,8 +61,8 @@ module _ (o : Opening) (lent : List ℕ) (α challenge : ℕ) where
   abbrev answering : Call
   answering = answerAlpha (o .system) α (nOf (o .system) + mOf (o .system))
 
-  abbrev middling : Call
-  middling = takeMiddle (St.middleOf o lent α)
+  abbrev taking-middle : Call
+  taking-middle = takeMiddle (St.middleOf o lent α)
 
   abbrev asking : Call
   asking = setChallenge challenge
@@ -77,7 +77,7 @@ module _ (o : Opening) (lent : List ℕ) (α challenge : ℕ) where
   threeCalls = committing ∷ taking ∷ asking ∷ replying ∷ judging ∷ []
 
   abbrev pub fiveCalls : List Call
-  fiveCalls = committing ∷ taking ∷ setting ∷ answering ∷ middling ∷ asking ∷ replying ∷ judging ∷ []
+  fiveCalls = committing ∷ taking ∷ setting ∷ answering ∷ taking-middle ∷ asking ∷ replying ∷ judging ∷ []
 
   -- both ends after the first call, and what the card then gave
   abbrev w1 : World
