@@ -57,7 +57,7 @@ module _ (o : Opening) where
   unfolding sentCommitments St.commitmentsOf St.freshCard cardWith openedCard
   sent-commitments-is r lent = refl
 
-  pub answered-is : (r : ℕ) (lent : List ℕ) → answeredCard (St.heldCard o AnswerAlpha r lent) ≡ St.heldCard o Reply r lent
+  answered-is : (r : ℕ) (lent : List ℕ) → answeredCard (St.heldCard o AnswerAlpha r lent) ≡ St.heldCard o Reply r lent
   unfolding answeredCard heldLent St.heldCard cardWith openedCard
   answered-is r lent = refl
 
@@ -221,7 +221,7 @@ module _ (o : Opening) where
   round-kept r lent = refl
 
   -- the card after its reply: in its next round, or closed
-  replied-next : (r : ℕ) (lent : List ℕ) → r + 1 < o .rounds → o .rounds < 256 → repliedCard (St.heldCard o Reply r lent) ≡ St.freshCard o (r + 1)
+  pub replied-next : (r : ℕ) (lent : List ℕ) → r + 1 < o .rounds → o .rounds < 256 → repliedCard (St.heldCard o Reply r lent) ≡ St.freshCard o (r + 1)
   unfolding repliedCard
   replied-next r lent more small =
       let count : nextCount r ≡ r + 1 = count-below r (o .rounds) (omega arith) small in

@@ -5,6 +5,8 @@ use mathlib.Core.Path.{_≡_, refl, sym, ap, subst, _∙_}
 use mathlib.Core.Bool.{true, cond}
 use mathlib.Core.List.{List, [], _∷_}
 use mathlib.Core.Option.{some}
+use native.Mathlib.Nat.{lt-of-not-le, le-antisymm, lt-irrefl}
+use native.Mathlib.Decide.{decLe}
 use native.Mathlib.Omega.{arith}
 use lib.Dec.{eqb}
 use lib.ListN.{length, take}
@@ -25,7 +27,7 @@ use Rattle.carrier.specs.declared.session.CarrierPhase.the-variants.{TakeCommit
 use Rattle.carrier.specs.declared.session.Carrier.{Carrier}
 use Rattle.carrier.specs.Carrier.{phaseNumber, closedCarrier, carrierWith, heldMiddle, openedCarrier, commitmentsRefusal, withCommitments, alphaRefusal, withAlpha, middleRefusal, withMiddle, challengeRefusal, withChallenge, replyRefusal, judgedCarrier}
 use Rattle.session.specs.Session.{Opening, Given, Asked, World, put, carrierMoves}
-use Rattle.session.proofs.Logs.{Clear, put-there, put-stays, put-clear, clear-next}
+use Rattle.session.proofs.Logs.{Clear, put-there, put-stays, put-clear, clear-next, given-before}
 use Rattle.session.proofs.CardSide.{by-scheme}
 use Rattle.session.proofs.States as St
 use Rattle.session.proofs.States.{AskedStays, Link, CarrierState, past-stays, card-stays, given-same, asked-same}
@@ -37,7 +39,7 @@ module _ (o : Opening) where
   unfolding St.carrierAt carrierWith openedCarrier
   carrier-opens = refl
 
-  took-commitments : (r : ℕ) (c : List ℕ) (phase : CarrierPhase) → cond (eqb (o .scheme) 3) SetChallenge SetAlpha ≡ phase →
+  pub took-commitments : (r : ℕ) (c : List ℕ) (phase : CarrierPhase) → cond (eqb (o .scheme) 3) SetChallenge SetAlpha ≡ phase →
       withCommitments (St.carrierAt o TakeCommitments r (zeros 96) (zeros 193) 0) c ≡ St.carrierAt o phase r (held c) (zeros 193) 0
   unfolding withCommitments St.carrierAt carrierWith openedCarrier
   took-commitments r c phase e = ap (λ (p : CarrierPhase). St.carrierAt o p r (held c) (zeros 193) 0) e
@@ -259,6 +261,18 @@ module _ (o : Opening) where
       (ap (λ (k : Carrier). withChallenge k challenge) (f .is) ∙ took-challenge r (held (f .commitments)) (f .middle) challenge) (f .no-more-alphas)
       (put-clear (w .asked .challenges) r challenge (f .no-challenges)))
       (l .behind)
+
+  -- a round is over at the card only with its challenge, so the card is in the carrier's round where the challenge is set
+  pub challenge-in-round : (w : World) (challenge : ℕ) → Link o w → challengeRefusal (w .carrier) challenge ≡ 0 → w .cardRound ≡ w .carrierRound
+  unfolding challengeRefusal Known
+  challenge-in-round w challenge l none =
+      let f : ChallengeDue (w .given) (w .asked) (w .carrier) (w .carrierRound) = known-at _ _ _ _ (l .carrier-state) 4 (state-due _ 4 (first-zero _ _ none)) in
+      elim (decLe (w .cardRound) (w .carrierRound)) [
+        | yes h ↦ le-antisymm h (l .behind)
+        | no h ↦
+            let p = l .past (w .carrierRound) (lt-of-not-le h) in
+            absurd (lt-irrefl _ (given-before (w .asked .challenges) (w .carrierRound) (w .carrierRound) (p .challenge) (f .no-challenges) (p .challenge-given)))
+      ]
 
   -- ---- a call that is due is not refused
 

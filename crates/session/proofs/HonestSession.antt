@@ -18,7 +18,7 @@ use Rattle.card.specs.Card as CardCalls
 use Rattle.card.proofs.Taken.{open-taken}
 use Rattle.carrier.specs.declared.session.Carrier.{Carrier}
 use Rattle.carrier.specs.Carrier as CarrierCalls
-use Rattle.session.specs.Session.{Opening, Call, commit, answerAlpha, reply, takeCommitments, setAlpha, takeMiddle, setChallenge, takeReply, Given, Asked, World, opened, refusal, effect, step, Unaltered, Honest, Due, Accepts, Ended, Holds}
+use Rattle.session.specs.Session.{Opening, Call, commit, answerAlpha, reply, takeCommitments, setAlpha, takeMiddle, setChallenge, takeReply, Given, Asked, World, opened, refusal, effect, step, after, Unaltered, Honest, Due, Accepts, Ended, Holds}
 use Rattle.session.proofs.States as St
 use Rattle.session.proofs.States.{Link, CardState, CarrierState}
 use Rattle.session.proofs.CardSide.{card-opens, commit-linked, answer-linked, reply-linked, commit-goes, answer-goes, reply-goes}
@@ -132,7 +132,21 @@ module _ (o : Opening) (k : Opens o) where
   holds (c ∷ cs) w l honest =
       (ended w l, due-goes w c l, accepts-each w c l (honest .0), holds cs (step w c) (step-linked w c l (honest .0)) (honest .1))
 
+  linked-after : (cs : List Call) (w : World) → Link o w → Honest o w cs → Link o (after w cs)
+  unfolding Honest after
+  linked-after [] w l honest = l
+  linked-after (c ∷ cs) w l honest = linked-after cs (step w c) (step-linked w c l (honest .0)) (honest .1)
+
 -- "It is claimed of the whole list at once": for every list of calls of an honest session, what `Holds` says
 pub honest-session : (o : Opening) → CardCalls.openRefusal (o .system) (o .scheme) (o .rounds) (o .key) (o .secret) ≡ 0 →
     CarrierCalls.openRefusal (o .system) (o .scheme) (o .rounds) (o .key) ≡ 0 → (calls : List Call) → Honest o (opened o) calls → Holds o (opened o) calls
 honest-session o card-open carrier-open calls honest = let k = opens o card-open in holds o k calls (opened o) (start o k) honest
+
+-- a challenge is set only while both ends are in the same round: that need not be asked of an honest list
+pub same-round : (o : Opening) → CardCalls.openRefusal (o .system) (o .scheme) (o .rounds) (o .key) (o .secret) ≡ 0 → (calls : List Call) →
+    Honest o (opened o) calls → (challenge : ℕ) → refusal (after (opened o) calls) (setChallenge challenge) ≡ 0 →
+    after (opened o) calls .cardRound ≡ after (opened o) calls .carrierRound
+unfolding refusal
+same-round o card-open calls honest challenge none =
+    let k = opens o card-open in
+    C.challenge-in-round o (after (opened o) calls) challenge (linked-after o k calls (opened o) (start o k) honest) none

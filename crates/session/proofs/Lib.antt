@@ -4,6 +4,6 @@ pub mod CarrierSide
 pub mod Counts
 pub mod HonestSession
 pub mod Logs
-pub mod OneRound
+pub mod PlayedSession
 pub mod States
 pub mod Verdicts
