@@ -2,14 +2,16 @@
 //
 // Each call takes the session by value and hands it back with 0, or with the number of the refusal; then the session and the
 // outputs are what they were. The answers' order is document 01's: 11, 10; the system's, 7; 1, 2, 3, 4, 5.
-mod calls;
+mod alpha;
+mod commitments;
 mod opening;
+mod replies;
 mod session;
 
-pub use calls::answer_alpha;
-pub use calls::commit;
-pub use calls::reply;
+pub use alpha::answer_alpha;
+pub use commitments::commit;
 pub use opening::open;
+pub use replies::reply;
 pub use session::Card;
 pub use session::CardAnswer;
 pub use session::CardPhase;

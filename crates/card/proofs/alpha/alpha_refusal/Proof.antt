@@ -1,8 +1,8 @@
 -- The callees' answers, put together. Assumes nothing.
 use Rattle.card.specs.Card.{alphaRefusal}
 use borrow.Author.Needs.{needs}
-use Rattle.card.proofs.calls.alpha_refusal.Statement.{statement}
-use Rattle.card.proofs.calls.alpha_refusal.Tie as tie
+use Rattle.card.proofs.alpha.alpha_refusal.Statement.{statement}
+use Rattle.card.proofs.alpha.alpha_refusal.Tie as tie
 
 pub alpha-refusal-spec : {M : Type 1} → statement M
 unfolding alphaRefusal

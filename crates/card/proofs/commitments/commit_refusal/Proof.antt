@@ -2,8 +2,8 @@
 use Rattle.refusal.proofs.Refusals.{orElse-assoc}
 use Rattle.card.specs.Card.{commitRefusal}
 use borrow.Author.Needs.{needs}
-use Rattle.card.proofs.calls.commit_refusal.Statement.{statement}
-use Rattle.card.proofs.calls.commit_refusal.Tie as tie
+use Rattle.card.proofs.commitments.commit_refusal.Statement.{statement}
+use Rattle.card.proofs.commitments.commit_refusal.Tie as tie
 
 pub commit-refusal-spec : {M : Type 1} → statement M
 unfolding commitRefusal

@@ -1,8 +1,8 @@
 -- The callees' answers, put together. Assumes nothing.
 use Rattle.card.specs.Card.{replyRefusal}
 use borrow.Author.Needs.{needs}
-use Rattle.card.proofs.calls.reply_refusal.Statement.{statement}
-use Rattle.card.proofs.calls.reply_refusal.Tie as tie
+use Rattle.card.proofs.replies.reply_refusal.Statement.{statement}
+use Rattle.card.proofs.replies.reply_refusal.Tie as tie
 
 pub reply-refusal-spec : {M : Type 1} → statement M
 unfolding replyRefusal

@@ -3,8 +3,8 @@ use borrow.Author.Tests.{lt-ltb, le-ltb}
 use Rattle.slices.specs.Slices.{zeros}
 use Rattle.card.specs.Card.{nextCard, repliedCard}
 use borrow.Author.Needs.{needs}
-use Rattle.card.proofs.calls.replied_card.Statement.{statement}
-use Rattle.card.proofs.calls.replied_card.Tie as tie
+use Rattle.card.proofs.replies.replied_card.Statement.{statement}
+use Rattle.card.proofs.replies.replied_card.Tie as tie
 
 pub replied-card-spec : {M : Type 1} → statement M
 unfolding repliedCard nextCard zeros

@@ -5,8 +5,8 @@ use Rattle.system.proofs.SystemLayout.{sizes}
 use Rattle.card.specs.Card.{sentReply}
 use Rattle.card.proofs.Steps.{three-reply, five-reply}
 use borrow.Author.Needs.{needs}
-use Rattle.card.proofs.calls.write_reply.Statement.{statement}
-use Rattle.card.proofs.calls.write_reply.Tie as tie
+use Rattle.card.proofs.replies.write_reply.Statement.{statement}
+use Rattle.card.proofs.replies.write_reply.Tie as tie
 
 pub write-reply-spec : {M : Type 1} → statement M
 unfolding sentReply

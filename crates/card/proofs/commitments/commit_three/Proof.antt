@@ -5,8 +5,8 @@ use Prim.Native.Nat.{ℕ}
 use Rattle.protocol.specs.Protocols as P
 use Rattle.exchange.specs.Card.{threeVectors, threeCommitted}
 use borrow.Author.Needs.{needs}
-use Rattle.card.proofs.calls.commit_three.Statement.{statement}
-use Rattle.card.proofs.calls.commit_three.Tie as tie
+use Rattle.card.proofs.commitments.commit_three.Statement.{statement}
+use Rattle.card.proofs.commitments.commit_three.Tie as tie
 
 pub commit-three-spec : {M : Type 1} → statement M
 unfolding threeVectors threeCommitted

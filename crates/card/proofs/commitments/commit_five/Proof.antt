@@ -2,8 +2,8 @@
 use Rattle.slices.specs.Slices.{zeros}
 use Rattle.exchange.specs.Card.{fiveCommitted}
 use borrow.Author.Needs.{needs}
-use Rattle.card.proofs.calls.commit_five.Statement.{statement}
-use Rattle.card.proofs.calls.commit_five.Tie as tie
+use Rattle.card.proofs.commitments.commit_five.Statement.{statement}
+use Rattle.card.proofs.commitments.commit_five.Tie as tie
 
 pub commit-five-spec : {M : Type 1} → statement M
 unfolding fiveCommitted zeros

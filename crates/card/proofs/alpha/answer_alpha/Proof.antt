@@ -7,8 +7,8 @@ use Rattle.exchange.specs.Messages.{middleBytes}
 use Rattle.card.specs.Card.{answeredCard, sentMiddle}
 use Rattle.card.proofs.Taken.{alpha-taken}
 use borrow.Author.Needs.{needs}
-use Rattle.card.proofs.calls.answer_alpha.Statement.{statement}
-use Rattle.card.proofs.calls.answer_alpha.Tie as tie
+use Rattle.card.proofs.alpha.answer_alpha.Statement.{statement}
+use Rattle.card.proofs.alpha.answer_alpha.Tie as tie
 
 pub answer-alpha-spec : {M : Type 1} → statement M
 unfolding answeredCard sentMiddle middleBytes kept

@@ -4,8 +4,8 @@ use Rattle.refusal.proofs.Refusals.{kept-refused, kept-accepted}
 use Rattle.card.proofs.Taken.{commit-taken}
 use Rattle.card.proofs.Steps.{committed-three, committed-five, sent-three, sent-five, three-commitments, five-commitments}
 use borrow.Author.Needs.{needs}
-use Rattle.card.proofs.calls.commit.Statement.{statement}
-use Rattle.card.proofs.calls.commit.Tie as tie
+use Rattle.card.proofs.commitments.commit.Statement.{statement}
+use Rattle.card.proofs.commitments.commit.Tie as tie
 
 pub commit-spec : {M : Type 1} → statement M
 commit-spec =

@@ -2,8 +2,8 @@
 use Rattle.slices.specs.Slices.{zeros}
 use Rattle.card.specs.Card.{heldVectors}
 use borrow.Author.Needs.{needs}
-use Rattle.card.proofs.calls.held_vectors.Statement.{statement}
-use Rattle.card.proofs.calls.held_vectors.Tie as tie
+use Rattle.card.proofs.replies.held_vectors.Statement.{statement}
+use Rattle.card.proofs.replies.held_vectors.Tie as tie
 
 pub held-vectors-spec : {M : Type 1} → statement M
 unfolding heldVectors zeros

@@ -3,8 +3,8 @@ use mathlib.Core.Path.{refl, sym, _∙_}
 use Rattle.refusal.proofs.Refusals.{kept-refused, kept-accepted}
 use Rattle.card.proofs.Taken.{reply-taken}
 use borrow.Author.Needs.{needs}
-use Rattle.card.proofs.calls.reply.Statement.{statement}
-use Rattle.card.proofs.calls.reply.Tie as tie
+use Rattle.card.proofs.replies.reply.Statement.{statement}
+use Rattle.card.proofs.replies.reply.Tie as tie
 
 pub reply-spec : {M : Type 1} → statement M
 reply-spec =

@@ -1,0 +1,119 @@
+// The card's reply to a challenge, with which its round ends.
+use crate::session::Card;
+use crate::session::CardAnswer;
+use crate::session::CardPhase;
+use crate::session::card_with;
+use crate::session::closed_card;
+use crate::session::held_lent;
+use crate::session::no_lent;
+use crate::session::phase_number;
+use exchange::write_reply_five;
+use exchange::write_reply_three;
+use field::sub_vectors;
+use refusal::first;
+use refusal::unless;
+use round::Vectors;
+use round::reply_five;
+use round::reply_three;
+use scheme::challenges;
+use scheme::reply_length;
+use session_state::next_count;
+use session_state::state_refusal;
+use system::are_sizes;
+ghost use mathlib.Core.Path.{_≡_};
+ghost use mathlib.Core.Bool.{true};
+ghost use lib.ListN.{length};
+ghost use Rattle.refusal.specs.Refusal.{kept};
+ghost use Rattle.system.specs.System.{areSizes};
+ghost use Rattle.scheme.specs.Scheme.{replyLength};
+ghost use Rattle.round.specs.Pieces.{vectorsOf};
+ghost use Rattle.card.specs.Card.{replyRefusal, repliedCard, heldVectors, sentReply};
+
+fn reply_refusal(card: Card, challenge: u8, out_len: usize) -> u8
+    ensures { λ r. ⌜ r ≡ replyRefusal card challenge «out_len» ⌝ }
+{
+    let phase = card.phase;
+    let expected = reply_length(card.scheme, card.n, card.m);
+    let state = state_refusal(phase_number(phase), 3);
+    let values = unless(are_sizes(card.q, card.n, card.m), 1);
+    let back = first(
+        unless(out_len == expected, 2),
+        unless(challenge < challenges(card.scheme), 4),
+    );
+    first(state, first(values, back))
+}
+
+// The vectors of a three-pass round as the card holds them.
+fn held_vectors(card: Card) -> Vectors
+    ensures { λ r. ⌜ vectorsOf r ≡ heldVectors card ⌝ }
+{
+    let s = card.s;
+    let r0 = card.r0;
+    let t0 = card.t0;
+    let e0 = card.e0;
+    let e1 = card.e1;
+    Vectors {
+        r0: r0,
+        r1: sub_vectors(card.q, card.n, s, r0),
+        t0: t0,
+        t1: sub_vectors(card.q, card.n, r0, t0),
+        e0: e0,
+        e1: e1,
+        mask: [0; 96],
+    }
+}
+
+fn write_reply(card: Card, challenge: u8, out: &mut [u8])
+    requires { ⌜ (areSizes (card .q) (card .n) (card .m) ≡ true) × (length (now out) ≡ replyLength (card .scheme) (card .n) (card .m)) ⌝ }
+    ensures { λ _. ⌜ now (out .exit) ≡ sentReply card challenge ⌝ }
+{
+    let rhos = held_lent(card).rhos;
+    if card.scheme == 3 {
+        write_reply_three(
+            reply_three(held_vectors(card), rhos, challenge),
+            card.n,
+            card.m,
+            out,
+        );
+    } else {
+        let s = card.s;
+        let r0 = card.r0;
+        write_reply_five(
+            reply_five(card.q, card.n, s, r0, rhos, challenge),
+            card.n,
+            out,
+        );
+    }
+}
+
+// The session after a reply: in its next round, nothing lent, or closed.
+fn replied_card(card: Card) -> Card
+    ensures { λ r. ⌜ r ≡ repliedCard card ⌝ }
+{
+    let next = next_count(card.round);
+    if next < card.rounds {
+        card_with(card, CardPhase::Commit, next, no_lent(), [0; 96])
+    } else {
+        closed_card()
+    }
+}
+
+// Writes the reply to a challenge to `out`, and forgets what was lent for the round.
+pub fn reply(card: Card, challenge: u8, out: &mut [u8]) -> CardAnswer
+    ensures { λ r. ⌜ (r .refusal ≡ replyRefusal card challenge (length (now (out .entry))))
+        × (r .card ≡ kept (r .refusal) card (repliedCard card))
+        × (now (out .exit) ≡ kept (r .refusal) (now (out .entry)) (sentReply card challenge)) ⌝ }
+{
+    let refused = reply_refusal(card, challenge, out.len());
+    if refused != 0 {
+        return CardAnswer {
+            refusal: refused,
+            card: card,
+        };
+    }
+    write_reply(card, challenge, out);
+    CardAnswer {
+        refusal: 0,
+        card: replied_card(card),
+    }
+}
