@@ -1,21 +1,13 @@
 //! Laws of the field, and of F and G on random inputs.
 
+mod shapes;
+
 use reference::field::{Field, ORDERS};
 use reference::map::{evaluate, polar};
 use reference::random::Generator;
 use reference::system::{length, System, HEAD};
 use reference::vector;
-
-const SHAPES: [(u8, u8); 8] = [
-    (1, 1),
-    (1, 9),
-    (2, 2),
-    (3, 5),
-    (8, 7),
-    (17, 4),
-    (33, 3),
-    (96, 2),
-];
+use shapes::SHAPES;
 
 fn fields() -> impl Iterator<Item = Field> {
     ORDERS.into_iter().filter_map(Field::of_order)

@@ -1,6 +1,8 @@
 //! The rounds of both schemes and the simulator, on random keys: what is accepted, what is not, and
 //! that a full set of replies gives the secret away.
 
+mod shapes;
+
 use reference::commitment::{commitments, Opening, RHO};
 use reference::field::ORDERS;
 use reference::five_pass::{self, Middle};
@@ -13,17 +15,7 @@ use reference::simulator::{self, Simulation};
 use reference::system::{length, System, HEAD};
 use reference::three_pass;
 use reference::vector::{all_elements, difference, sum};
-
-const SHAPES: [(u8, u8); 8] = [
-    (1, 1),
-    (1, 9),
-    (2, 2),
-    (3, 5),
-    (8, 7),
-    (17, 4),
-    (33, 3),
-    (96, 2),
-];
+use shapes::SHAPES;
 
 /// A key and what is lent to its card for one round.
 struct Card {

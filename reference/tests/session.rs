@@ -174,9 +174,12 @@ fn forged_replies_close_as_rejected() {
     }
 }
 
+/// A call of the card that writes to an output.
+type Writes<'a> = &'a dyn Fn(&mut [u8]) -> card::Answer;
+
 /// The number of each call of the card, with these arguments; a refused one changes nothing.
 fn card_numbers(card: &Card, system: &[u8], lent: &[u8], byte: u8, out: usize) -> [u8; 3] {
-    let calls: [&dyn Fn(&mut [u8]) -> card::Answer; 3] = [
+    let calls: [Writes; 3] = [
         &|out| card.clone().commit(system, lent, out),
         &|out| card.clone().answer(system, byte, out),
         &|out| card.clone().reply(byte, out),

@@ -100,6 +100,16 @@ pub struct Instance {
 }
 
 impl Instance {
+    /// Two vectors of a shape's system, and an output of the right length.
+    pub fn of(shape: Shape, system: Piece, x: &Piece, y: &Piece) -> Instance {
+        Instance {
+            system,
+            x: x.clone(),
+            y: y.clone(),
+            out: shape.m(),
+        }
+    }
+
     /// A random instance of a shape.
     pub fn random(random: &mut Generator, shape: Shape) -> Instance {
         Instance {

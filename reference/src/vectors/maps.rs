@@ -121,12 +121,7 @@ fn extreme_vectors() -> Vec<Instance> {
                 (&other, &last),
             ] {
                 let system = shape.random_system(&mut random);
-                instances.push(Instance {
-                    system,
-                    x: x.clone(),
-                    y: y.clone(),
-                    out: shape.m(),
-                });
+                instances.push(Instance::of(shape, system, x, y));
             }
         }
     }
@@ -143,12 +138,7 @@ fn largest_coefficients() -> Vec<Instance> {
             let last = shape.constant_vector(q - 1);
             let other = shape.random_vector(&mut random);
             for (x, y) in [(&last, &last), (&last, &other), (&other, &last)] {
-                instances.push(Instance {
-                    system: shape.system(&[q - 1]),
-                    x: x.clone(),
-                    y: y.clone(),
-                    out: shape.m(),
-                });
+                instances.push(Instance::of(shape, shape.system(&[q - 1]), x, y));
             }
         }
     }
@@ -173,11 +163,9 @@ fn unit_pairs(random: &mut Generator, shape: Shape, places: &[usize]) -> Vec<Ins
         .iter()
         .flat_map(|&i| places.iter().map(move |&j| (i, j)));
     pairs
-        .map(|(i, j)| Instance {
-            system: system.clone(),
-            x: shape.unit_vector(i),
-            y: shape.unit_vector(j),
-            out: shape.m(),
+        .map(|(i, j)| {
+            let (x, y) = (shape.unit_vector(i), shape.unit_vector(j));
+            Instance::of(shape, system.clone(), &x, &y)
         })
         .collect()
 }
