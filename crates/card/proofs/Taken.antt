@@ -7,7 +7,7 @@ use native.Mathlib.Omega.{arith}
 use lib.ListN.{length, take}
 use borrow.Author.Tests.{eq-eqb, lt-ltb, ltb-true}
 use Rattle.slices.specs.Slices.{same}
-use Rattle.slices.proofs.Sameness.{same-true}
+use Rattle.slices.proofs.Sameness.{same-true, same-by}
 use Rattle.refusal.proofs.Refusals.{first-zero, later-zero, test-holds, equal-holds, both-zero, unless-holds}
 use Rattle.field.specs.Vector.{held, allBelow}
 use Rattle.system.specs.System.{qOf, nOf, mOf, areSizes, hasSizes, systemRefusal, lentRefusal, F}
@@ -47,6 +47,18 @@ open-taken b scheme rounds v s none =
       secret-elements = test-holds (allBelow (qOf b) s) 3 tt (later-zero _ _ after-secret);
       key = same-true _ _ (test-holds (same (F b (held s)) (held v)) 5 tt (later-zero _ _ none));
     }
+
+-- "An opening to which no numbered refusal applies isn't refused."
+pub open-due : (b : List ℕ) (scheme rounds : ℕ) (v s : List ℕ) → OpenTaken b scheme rounds v s → openRefusal b scheme rounds v s ≡ 0
+unfolding openRefusal openForm
+open-due b scheme rounds v s k =
+    both-zero _ _
+    (both-zero _ _ (k .good)
+    (both-zero _ _ (unless-holds _ 1 (k .scheme-value))
+    (both-zero _ _ (unless-holds _ 1 (k .rounds-value))
+    (both-zero _ _ (unless-holds _ 2 (eq-eqb (length v) (mOf b) (k .key-length)))
+    (both-zero _ _ (unless-holds _ 2 (eq-eqb (length s) (nOf b) (k .secret-length))) (both-zero _ _ (unless-holds _ 3 (k .key-elements)) (unless-holds _ 3 (k .secret-elements))))))))
+    (unless-holds _ 5 (same-by (F b (held s)) (held v) (k .key)))
 
 -- ---- commit
 

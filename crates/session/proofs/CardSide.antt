@@ -61,17 +61,17 @@ module _ (o : Opening) where
   unfolding answeredCard heldLent St.heldCard cardWith openedCard
   answered-is r lent = refl
 
-  pub sent-middle-is : (r : ℕ) (lent : List ℕ) (α : ℕ) → sentMiddle (St.heldCard o AnswerAlpha r lent) (o .system) α ≡ St.middleOf o lent α
+  pub sent-middle-is : (phase : CardPhase) (r : ℕ) (lent : List ℕ) (α : ℕ) → sentMiddle (St.heldCard o phase r lent) (o .system) α ≡ St.middleOf o lent α
   unfolding sentMiddle St.middleOf St.heldCard cardWith openedCard
-  sent-middle-is r lent α = refl
+  sent-middle-is phase r lent α = refl
 
   next-is : (r : ℕ) (lent : List ℕ) → nextCard (St.heldCard o Reply r lent) ≡ St.freshCard o (nextCount r)
   unfolding nextCard St.heldCard St.freshCard cardWith openedCard
   next-is r lent = refl
 
-  pub sent-reply-is : (r : ℕ) (lent : List ℕ) (challenge : ℕ) → sentReply (St.heldCard o Reply r lent) challenge ≡ St.replyOf o lent challenge
+  pub sent-reply-is : (phase : CardPhase) (r : ℕ) (lent : List ℕ) (challenge : ℕ) → sentReply (St.heldCard o phase r lent) challenge ≡ St.replyOf o lent challenge
   unfolding sentReply St.replyOf heldLent heldVectors St.heldCard cardWith openedCard threeReplied threeVectors replyThree cardThree r1Of t1Of mapOf
-  sent-reply-is r lent challenge = by-scheme (o .scheme) (λ three. simp three) (λ other. simp (ne-eqb (o .scheme) 3 other))
+  sent-reply-is phase r lent challenge = by-scheme (o .scheme) (λ three. simp three) (λ other. simp (ne-eqb (o .scheme) 3 other))
 
   -- ---- the call that is due, by the state
 
@@ -190,7 +190,7 @@ module _ (o : Opening) where
       CardState o (withMiddles g r (sentMiddle card (o .system) α)) a (answeredCard card) r
   answered-state g a card r α f asked =
       let l = sentMiddle card (o .system) α in
-      let given = put-there (g .middles) r l ∙ ap some (ap (λ (k : Card). sentMiddle k (o .system) α) (f .is) ∙ sent-middle-is r (f .lent) α) in
+      let given = put-there (g .middles) r l ∙ ap some (ap (λ (k : Card). sentMiddle k (o .system) α) (f .is) ∙ sent-middle-is AnswerAlpha r (f .lent) α) in
       St.is-ready (f .lent) (f .below) (f .lends) (ap answeredCard (f .is) ∙ answered-is r (f .lent)) (f .commitments-given) (f .no-more-commitments)
       (St.with-middle (f .five) α asked given) (put-clear (g .middles) r l (f .no-middles)) (f .no-replies)
 
@@ -267,7 +267,7 @@ module _ (o : Opening) where
         middle-given = St.middle-stays o r (f .lent) stays (asked-same o (w .asked)) (f .middle-given);
         challenge-given = asked;
         challenge-value = rw scheme at (k .value);
-        reply-given = put-there (w .given .replies) r _ ∙ ap some (ap (λ (c : Card). sentReply c challenge) (f .is) ∙ sent-reply-is r (f .lent) challenge);
+        reply-given = put-there (w .given .replies) r _ ∙ ap some (ap (λ (c : Card). sentReply c challenge) (f .is) ∙ sent-reply-is Reply r (f .lent) challenge);
       } in
       moved w _ (r + 1) g l stays (omega arith) (replied-state (w .given) (w .asked) (w .card) r challenge f small)
       (λ j h. ⊎-elim (λ (same : j ≡ r). rw same last) (λ (before : j < r). kept-past w g l stays j before) (eq-or-lt-of-le (omega arith)))

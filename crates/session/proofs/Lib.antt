@@ -4,6 +4,7 @@ pub mod CarrierSide
 pub mod Counts
 pub mod HonestSession
 pub mod Logs
+pub mod Openings
 pub mod PlayedSession
 pub mod States
 pub mod Verdicts

@@ -1,13 +1,31 @@
--- A session played through: the list of calls in which none is refused, from the openings to the taking of round N's reply. There is one for all that may
--- be drawn (`whole-session`), so the claim about honest sessions speaks of whole sessions of each length.
-use Prim.Native.Nat.{ℕ, _+_, _<_}
+-- A session played through: the list of calls in which none is refused, from the openings to the taking of round N's reply. There is one for every opening
+-- that document 01 lets through and all that may be drawn (`whole-session`), so the claim about honest sessions speaks of whole sessions of each length.
+use Prim.Native.Nat.{ℕ, _+_, _≤_, _<_}
 use mathlib.Core.Path.{_≡_}
-use mathlib.Core.List.{List, [], _∷_}
+use mathlib.Core.Bool.{cond}
+use mathlib.Core.Logic.{_⊎_}
+use mathlib.Core.List.{List, [], _∷_, _++_}
+use lib.Dec.{eqb}
 use lib.ListN.{length, take}
-use Rattle.system.specs.System.{qOf, nOf, mOf}
-use Rattle.scheme.specs.Scheme.{challenges, commitmentsLength}
+use Rattle.field.specs.Vector.{held}
+use Rattle.system.specs.System.{qOf, nOf, mOf, WellFormedSystem, F}
+use Rattle.scheme.specs.Scheme.{challenges, commitmentsLength, replyLength}
 use Rattle.record.specs.Record.{Elements}
-use Rattle.session.specs.Session.{Opening, Call, World, refusal, step, Unaltered}
+use Rattle.card.specs.declared.session.Card.{Card}
+use Rattle.card.specs.Card.{openedCard, committedCard, sentCommitments, sentMiddle, sentReply}
+use Rattle.session.specs.Session.{Opening, Call, commit, answerAlpha, reply, takeCommitments, setAlpha, takeMiddle, setChallenge, takeReply, World, refusal, step, Unaltered}
+
+-- "An opening to which no numbered refusal applies isn't refused.": 2 and 3 of the system, 1, 2, 3, 5
+pub record Openable (o : Opening) : Type 0 where
+  pub system-well-formed : WellFormedSystem (o .system)
+  pub scheme-value : (o .scheme ≡ 3) ⊎ (o .scheme ≡ 5)
+  pub some-rounds : 1 ≤ o .rounds
+  pub most-rounds : o .rounds ≤ 255
+  pub key-length : length (o .key) ≡ mOf (o .system)
+  pub key-elements : Elements (qOf (o .system)) (o .key)
+  pub secret-length : length (o .secret) ≡ nOf (o .system)
+  pub secret-elements : Elements (qOf (o .system)) (o .secret)
+  pub key-of-secret : F (o .system) (held (o .secret)) ≡ held (o .key)
 
 -- what is drawn for a round: what is lent to the card, and the carrier's α and challenge
 pub record Draw : Type 0 where
@@ -25,6 +43,55 @@ pub record Fits (o : Opening) (d : Draw) : Type 0 where
 unfoldable pub AllFit : Opening → List Draw → Type 0
 AllFit o [] = Unit
 AllFit o (d ∷ ds) = Fits o d × AllFit o ds
+
+-- ---- the calls
+
+module _ (o : Opening) where
+  module _ (d : Draw) where
+    -- a card to which this is lent: what it sends in a round hangs on what is lent for it, and not on the round's number
+    abbrev pub fresh : Card
+    fresh = openedCard (o .system) (o .scheme) (o .rounds) (o .secret)
+
+    abbrev pub lending : Card
+    lending = committedCard fresh (o .system) (d .lent)
+
+    abbrev pub committing : Call
+    committing = commit (o .system) (d .lent) (commitmentsLength (o .scheme))
+
+    abbrev pub taking : Call
+    taking = takeCommitments (sentCommitments fresh (o .system) (d .lent))
+
+    abbrev pub setting : Call
+    setting = setAlpha (d .α)
+
+    abbrev pub answering : Call
+    answering = answerAlpha (o .system) (d .α) (nOf (o .system) + mOf (o .system))
+
+    abbrev pub taking-middle : Call
+    taking-middle = takeMiddle (sentMiddle lending (o .system) (d .α))
+
+    abbrev pub asking : Call
+    asking = setChallenge (d .challenge)
+
+    abbrev pub replying : Call
+    replying = reply (d .challenge) (replyLength (o .scheme) (nOf (o .system)) (mOf (o .system)))
+
+    abbrev pub judging : Call
+    judging = takeReply (o .system) (sentReply lending (d .challenge))
+
+    -- "per round take commitments, set α (scheme 5), take t1 and e1 (scheme 5), set challenge, take reply", each behind the card's call that it waits for
+    abbrev pub threeCalls : List Call
+    threeCalls = committing ∷ taking ∷ asking ∷ replying ∷ judging ∷ []
+
+    abbrev pub fiveCalls : List Call
+    fiveCalls = committing ∷ taking ∷ setting ∷ answering ∷ taking-middle ∷ asking ∷ replying ∷ judging ∷ []
+
+    abbrev pub roundCalls : List Call
+    roundCalls = cond (eqb (o .scheme) 3) threeCalls fiveCalls
+
+  unfoldable pub sessionCalls : List Draw → List Call
+  sessionCalls [] = []
+  sessionCalls (d ∷ ds) = roundCalls d ++ sessionCalls ds
 
 -- each call in its turn is not refused and unaltered, and at the end of the list round N's reply has been taken
 unfoldable pub Plays : Opening → World → List Call → Type 0

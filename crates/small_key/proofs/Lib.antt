@@ -1,2 +1,3 @@
--- K1 to K12, proved.
+-- K1 to K12, proved, and that sessions with this key exist.
 pub mod Examples
+pub mod Sessions

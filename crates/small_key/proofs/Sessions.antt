@@ -1,0 +1,40 @@
+-- The small key may be opened for every N and in both schemes, so sessions of every length exist. Assumes nothing.
+use Prim.Native.Nat.{ℕ, _≤_}
+use mathlib.Core.Path.{_≡_, refl}
+use mathlib.Core.Logic.{_⊎_}
+use Rattle.slices.specs.Slices.{tabulate}
+use Rattle.refusal.specs.Refusal.{unless, _orElse_}
+use Rattle.field.specs.Ops.{isField, modulus, remainders, ops}
+use Rattle.field.specs.Vector.{vector, held, sum, allBelow}
+use Rattle.system.specs.Polynomial.{pairs, polynomial}
+use Rattle.system.specs.System.{width, triangle, quadratic, linear, F, areSizes, isSize, systemLength, systemRefusal}
+use Rattle.system.proofs.SystemLayout.{well-formed, all-below-at}
+use Rattle.session.specs.Session.{Opening}
+use Rattle.session.specs.Played.{Openable}
+use Rattle.small_key.specs.SmallKey.{key, s, v}
+
+abbrev pub smallOpening : ℕ → ℕ → Opening
+smallOpening scheme rounds = record { system = key; scheme = scheme; rounds = rounds; key = v; secret = s }
+
+not-refused : systemRefusal key ≡ 0
+unfolding systemRefusal areSizes isSize systemLength unless _orElse_ isField width triangle allBelow
+not-refused = refl
+
+key-of-secret : F key (held s) ≡ held v
+unfolding F quadratic linear width triangle polynomial pairs sum vector tabulate ops remainders modulus isField
+key-of-secret = refl
+
+pub small-key-opens : (scheme rounds : ℕ) → (scheme ≡ 3) ⊎ (scheme ≡ 5) → 1 ≤ rounds → rounds ≤ 255 → Openable (smallOpening scheme rounds)
+unfolding allBelow
+small-key-opens scheme rounds which some most =
+    record {
+      system-well-formed = well-formed key not-refused;
+      scheme-value = which;
+      some-rounds = some;
+      most-rounds = most;
+      key-length = refl;
+      key-elements = all-below-at 7 v refl;
+      secret-length = refl;
+      secret-elements = all-below-at 7 s refl;
+      key-of-secret = key-of-secret;
+    }
