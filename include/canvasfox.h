@@ -117,9 +117,9 @@ size_t canvasfox_report(const uint8_t *input, size_t input_length,
  * Bytes 4 to 99: the secret, and zeros. Bytes 100 to 425: the first string. Bytes 426 to 751: the second string.
  * A string: its length, four bytes, the lowest first, then 322 bytes, the string and zeros. A clash has no secret
  * and a secret no strings: those bytes are 0.
- * 2 where finding has not 752 bytes, whatever the system and the records are; then the audit's own: the system's
- * refusals; of each record in turn its own, and 1 for another scheme; 7; 8, with the first rejected record and its
- * first rejected round; 9. */
+ * The system's refusals; 2 where finding has not 752 bytes, whatever the records are; then the audit's own: of each
+ * record in turn its own, and 1 for another scheme; 7; 8, with the first rejected record and its first rejected
+ * round; 9. */
 uint32_t canvasfox_audit_three(const uint8_t *system, size_t system_length,
                                const uint8_t *a, size_t a_length,
                                const uint8_t *b, size_t b_length,

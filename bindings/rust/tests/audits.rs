@@ -7,6 +7,7 @@ use common::{below, damage_challenge, once_in, output, perhaps_damage, shape, Ta
 use reference::audit::Finding;
 use reference::random::Generator;
 use reference::scheme::Scheme;
+use reference::system::System;
 use reference::vectors::audited::{layout, Cards};
 use reference::vectors::instance::Shape;
 
@@ -94,23 +95,26 @@ fn by_value(result: Result<canvasfox::Finding, AuditRefusal>, n: usize) -> Findi
     }
 }
 
+/// The system decides first, then the output's length.
 fn compare(
     random: &mut Generator,
     tally: &mut Tally,
+    system: &[u8],
     (own, by_value): (&Finding, &Finding),
     call: impl FnOnce(&mut [u8]) -> u32,
 ) {
     assert_eq!(own, by_value);
     let mut expected = output(random, FINDING);
     let mut found = expected.clone();
-    let number = if expected.len() == FINDING {
-        let (number, bytes) = answer(own);
-        if number == 0 {
-            expected = bytes;
+    let number = match System::read(system) {
+        Ok(_) if expected.len() != FINDING => 2,
+        _ => {
+            let (number, bytes) = answer(own);
+            if number == 0 {
+                expected = bytes;
+            }
+            number
         }
-        number
-    } else {
-        2
     };
     assert_eq!(call(&mut found), number);
     assert!(found == expected, "{own:?}");
@@ -127,9 +131,13 @@ fn three_records() {
         let own = reference::audit::audit_three(&system, a, b, c);
         let n = system.get(1).copied().unwrap_or(0).into();
         let found = by_value(audit_three(&system, [a, b, c]), n);
-        compare(&mut random, &mut tally, (&own, &found), |finding| {
-            slices::audit_three(&system, a, b, c, finding)
-        });
+        compare(
+            &mut random,
+            &mut tally,
+            &system,
+            (&own, &found),
+            |finding| slices::audit_three(&system, a, b, c, finding),
+        );
     }
     tally.has("audit three", &[0, 1, 2, 3, 4, 6, 7, 8, 9], 300);
 }
@@ -144,9 +152,13 @@ fn four_records() {
         let own = reference::audit::audit_five(&system, a, b, c, d);
         let n = system.get(1).copied().unwrap_or(0).into();
         let found = by_value(audit_five(&system, [a, b, c, d]), n);
-        compare(&mut random, &mut tally, (&own, &found), |finding| {
-            slices::audit_five(&system, a, b, c, d, finding)
-        });
+        compare(
+            &mut random,
+            &mut tally,
+            &system,
+            (&own, &found),
+            |finding| slices::audit_five(&system, a, b, c, d, finding),
+        );
     }
     tally.has("audit five", &[0, 1, 2, 3, 4, 6, 7, 8, 9], 300);
 }

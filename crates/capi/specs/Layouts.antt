@@ -3,6 +3,7 @@ use Prim.Native.Nat.{ℕ, _+_, _*_}
 use mathlib.Core.List.{List, [], _∷_, _++_}
 use lib.Dec.{eqb}
 use Rattle.refusal.specs.Refusal.{unless, _orElse_}
+use Rattle.system.specs.System.{systemRefusal}
 use Rattle.record.specs.declared.layout.Layout.{Layout}
 use Rattle.record.specs.Record.{entry}
 use Rattle.record.specs.Reader.{recordRefusal}
@@ -30,6 +31,6 @@ auditNumber Secret = 0
 auditNumber (Clash k) = 0
 auditNumber (Refused number whose round) = number + 256 * whose + 65536 * round
 
--- canvasfox.h: "2 where finding has not 752 bytes, whatever the system and the records are; then the audit's own"
-unfoldable pub auditRefusal : Finding → ℕ → ℕ
-auditRefusal f room = unless (eqb room 752) 2 orElse auditNumber f
+-- canvasfox.h: "The system's refusals; 2 where finding has not 752 bytes, whatever the records are; then the audit's own"
+unfoldable pub auditRefusal : List ℕ → Finding → ℕ → ℕ
+auditRefusal b f room = systemRefusal b orElse unless (eqb room 752) 2 orElse auditNumber f

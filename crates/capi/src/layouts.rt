@@ -4,8 +4,11 @@ use auditing::Finding;
 use finding_layout::finding_bytes;
 use record::Header;
 use record::table;
+use refusal::first;
+use refusal::unless;
 use slices::put;
 use slices::put_both;
+use system::check;
 ghost use mathlib.Core.Path.{_≡_};
 ghost use lib.ListN.{length};
 ghost use Rattle.refusal.specs.Refusal.{kept};
@@ -36,19 +39,26 @@ fn audit_number(f: Finding) -> u32
     }
 }
 
-// The same with the output's length, which comes first.
-fn audit_refusal(f: Finding, room: usize) -> u32
-    ensures { λ r. ⌜ r ≡ auditRefusal f «room» ⌝ }
+// The same with the output's length, which comes behind the system and before the records.
+fn audit_refusal(system: &[u8], f: Finding, room: usize) -> u32
+    ensures { λ r. ⌜ r ≡ auditRefusal (now (system .entry)) f «room» ⌝ }
 {
-    if room == 752 { audit_number(f) } else { 2 }
+    let of_system = check(system);
+    let of_room = unless(room == 752, 2);
+    let front = first(of_system, of_room);
+    if front != 0 {
+        front as u32
+    } else {
+        audit_number(f)
+    }
 }
 
 // Writes what an audit found, and answers 0; or answers the refusal, and leaves the output.
-pub fn answer(audited: Audited, finding: &mut [u8]) -> u32
-    ensures { λ r. ⌜ (r ≡ auditRefusal (audited .finding) (length (now (finding .entry)))) × (now (finding .exit) ≡ kept r (now (finding .entry)) (findingBytes audited)) ⌝ }
+pub fn answer(system: &[u8], audited: Audited, finding: &mut [u8]) -> u32
+    ensures { λ r. ⌜ (r ≡ auditRefusal (now (system .entry)) (audited .finding) (length (now (finding .entry)))) × (now (finding .exit) ≡ kept r (now (finding .entry)) (findingBytes audited)) ⌝ }
 {
     let found = audited.finding;
-    let refused = audit_refusal(found, finding.len());
+    let refused = audit_refusal(system, found, finding.len());
     if refused != 0 {
         return refused;
     }

@@ -120,10 +120,10 @@ pub extern "C" fn canvasfox_audit_three<'a>(
     c: &'a [u8],
     finding: &mut [u8],
 ) -> u32
-    ensures { λ r. ⌜ (r ≡ auditRefusal (answerOf (auditThree (now (system .entry)) (now (a .entry)) (now (b .entry)) (now (c .entry))) .finding) (length (now (finding .entry))))
+    ensures { λ r. ⌜ (r ≡ auditRefusal (now (system .entry)) (answerOf (auditThree (now (system .entry)) (now (a .entry)) (now (b .entry)) (now (c .entry))) .finding) (length (now (finding .entry))))
         × (now (finding .exit) ≡ kept r (now (finding .entry)) (findingBytes (answerOf (auditThree (now (system .entry)) (now (a .entry)) (now (b .entry)) (now (c .entry)))))) ⌝ }
 {
-    answer(audit_three(system, a, b, c), finding)
+    answer(system, audit_three(system, a, b, c), finding)
 }
 
 // The audit of four records of scheme 5.
@@ -136,8 +136,8 @@ pub extern "C" fn canvasfox_audit_five<'a>(
     d: &'a [u8],
     finding: &mut [u8],
 ) -> u32
-    ensures { λ r. ⌜ (r ≡ auditRefusal (answerOf (auditFive (now (system .entry)) (now (a .entry)) (now (b .entry)) (now (c .entry)) (now (d .entry))) .finding) (length (now (finding .entry))))
+    ensures { λ r. ⌜ (r ≡ auditRefusal (now (system .entry)) (answerOf (auditFive (now (system .entry)) (now (a .entry)) (now (b .entry)) (now (c .entry)) (now (d .entry))) .finding) (length (now (finding .entry))))
         × (now (finding .exit) ≡ kept r (now (finding .entry)) (findingBytes (answerOf (auditFive (now (system .entry)) (now (a .entry)) (now (b .entry)) (now (c .entry)) (now (d .entry)))))) ⌝ }
 {
-    answer(audit_five(system, a, b, c, d), finding)
+    answer(system, audit_five(system, a, b, c, d), finding)
 }

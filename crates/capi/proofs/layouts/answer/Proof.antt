@@ -3,16 +3,16 @@ use mathlib.Core.Path.{_≡_, refl, sym, _∙_}
 use native.Mathlib.Omega.{arith}
 use lib.ListN.{length}
 use Rattle.slices.proofs.Parts.{placed-whole}
-use Rattle.refusal.proofs.Refusals.{kept-refused, kept-accepted, equal-holds, first-zero}
+use Rattle.refusal.proofs.Refusals.{kept-refused, kept-accepted, equal-holds, first-zero, later-zero}
 use Rattle.capi.specs.Layouts.{auditRefusal}
 use borrow.Author.Needs.{needs}
 use Rattle.capi.proofs.layouts.answer.Statement.{statement}
 use Rattle.capi.proofs.layouts.answer.Tie as tie
 
 -- what is not refused has room for a finding
-room : (c : tie.After-finding-bytes) → length (c .before .before .before .before .args .finding .now) ≡ 752
+room : (c : tie.After-finding-bytes) → length (c .before .before .before .before .before .args .finding .now) ≡ 752
 unfolding auditRefusal
-room c = equal-holds _ 752 2 tt (first-zero _ _ (sym (c .before .before .audit-refusal .ensures) ∙ c .before .if1 .left))
+room c = equal-holds _ 752 2 tt (first-zero _ _ (later-zero _ _ (sym (c .before .before .audit-refusal .ensures) ∙ c .before .if1 .left)))
 
 pub answer-spec : {M : Type 1} → statement M
 answer-spec =

@@ -1,16 +1,29 @@
--- The output's length decides first. Assumes nothing.
-use borrow.Author.Tests.{ne-eqb}
-use Rattle.refusal.specs.Refusal.{unless, _orElse_}
+-- The system decides first, then the output's length. Assumes nothing.
+use Prim.Native.Nat.{ℕ}
+use mathlib.Core.Path.{_≡_, sym, _∙_}
+use Rattle.refusal.specs.Refusal.{_orElse_}
+use Rattle.refusal.proofs.Refusals.{orElse-assoc, first-decides, later-decides}
 use Rattle.capi.specs.Layouts.{auditRefusal}
 use borrow.Author.Needs.{needs}
 use Rattle.capi.proofs.layouts.audit_refusal.Statement.{statement}
 use Rattle.capi.proofs.layouts.audit_refusal.Tie as tie
 
+-- what stands in front decides, unless it is 0
+in-front : (a b c front : ℕ) → front ≡ (a orElse b) → (front ≡ 0 → ⊥) → front ≡ (a orElse b orElse c)
+in-front a b c front e some = sym (first-decides front c some) ∙ rw e (orElse-assoc a b c)
+
+behind : (a b c front : ℕ) → front ≡ (a orElse b) → front ≡ 0 → c ≡ (a orElse b orElse c)
+behind a b c front e none = sym (later-decides front c none) ∙ rw e (orElse-assoc a b c)
+
 pub audit-refusal-spec : {M : Type 1} → statement M
-unfolding auditRefusal unless _orElse_
+unfolding auditRefusal
 audit-refusal-spec =
     tie.close
     (tie.spec
     (λ c κs. search needs)
-    (λ c. simp (c .audit-number .ensures, c .before .if1 .taken))
-    (λ c. simp (ne-eqb _ _ (c .if1 .left))))
+    (λ c κs. search needs)
+    (λ c κs. search needs)
+    (λ c. search needs)
+    (λ c κs. search needs)
+    (λ c. in-front _ _ _ _ (simp (c .before .first .ensures, c .before .before .unless .ensures, c .before .before .before .check .ensures)) (c .if1 .taken))
+    (λ c. c .audit-number .ensures ∙ behind _ _ _ _ (simp (c .before .before .first .ensures, c .before .before .before .unless .ensures, c .before .before .before .before .check .ensures)) (c .before .if1 .left)))
