@@ -1,2 +1,3 @@
--- Laws of a round's messages, for honest rounds and sessions.
+-- Laws of a round's messages, for honest rounds, sessions and the simulator.
+pub mod Formed
 pub mod ReadBack

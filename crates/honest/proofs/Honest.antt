@@ -1,52 +1,37 @@
 -- Honest rounds at their bytes, for every system that is not refused: what the card sends is accepted, and has its lengths and elements. Assumes nothing.
-use Prim.Native.Nat.{ℕ, _+_, _≤_, _<_}
+use Prim.Native.Nat.{ℕ, _+_, _≤_}
 use mathlib.Core.Path.{_≡_, refl, ap₂, _∙_}
 use mathlib.Core.Bool.{true}
 use mathlib.Core.List.{List, _∷_}
-use native.Mathlib.Nat.{lt-of-not-le}
-use native.Mathlib.Decide.{decLe}
 use native.Mathlib.Omega.{arith}
 use lib.Dec.{eqb}
-use lib.ListN.{length, take, List·getD-eq-default}
-use lib.Seq.{getD-take}
+use lib.ListN.{length, take}
 use Rattle.slices.proofs.Booleans.{either}
 use Rattle.slices.specs.Slices.{_!_, tabulate}
-use Rattle.field.specs.Vector.{vector, slotV, allBelow}
-use Rattle.field.proofs.Modulus.{size-of}
+use Rattle.field.specs.Vector.{vector, allBelow}
 use Rattle.field.proofs.Fields.{field}
-use Rattle.sha256.proofs.DigestBytes.{length-sha256}
-use Rattle.commitment.specs.Commitment.{Com}
 use Rattle.system.specs.System.{qOf, nOf, mOf, opsOf, systemRefusal, F}
-use Rattle.system.proofs.SystemLayout.{accepted, all-below-at}
+use Rattle.system.proofs.SystemLayout.{accepted}
 use Rattle.protocol.specs.Protocols as P
-use Rattle.protocol.specs.Protocols.{AreElements, cardFive, t1By, e1By}
+use Rattle.protocol.specs.Protocols.{cardFive, t1By, e1By}
 use Rattle.protocol.specs.Rounds.{mapOf, IsX, IsY}
-use Rattle.protocol.proofs.SystemMap.{is-vector, vectors}
+use Rattle.protocol.proofs.SystemMap.{vectors}
 use Rattle.protocol.proofs.Rounds.{elements-three, elements-five}
-use Rattle.round.specs.declared.pieces.Rhos.{Rhos}
 use Rattle.round.specs.declared.pieces.Commitments.{Commitments}
 use Rattle.round.specs.declared.pieces.Middle.{Middle}
 use Rattle.round.specs.declared.pieces.ReplyThree.{ReplyThree}
 use Rattle.round.specs.declared.pieces.ReplyFive.{ReplyFive}
-use Rattle.round.specs.ThreePass.{commitmentsThree, replyThree, acceptsThree}
-use Rattle.round.specs.FivePass.{commitmentsFive, replyFive}
+use Rattle.round.specs.ThreePass.{acceptsThree}
+use Rattle.round.specs.FivePass.{replyFive}
 use Rattle.round.proofs.Acceptance.{accepted-three, accepted-five}
 use Rattle.exchange.specs.Messages.{lentIn, accepts}
 use Rattle.exchange.specs.Messages.{threeCommitments, fiveCommitments, replyThreeBytes, middleBytes, replyFiveBytes}
 use Rattle.exchange.specs.Card.{threeVectors, threeCommitted, threeReplied, fiveCommitted}
+use Rattle.exchange.proofs.Formed.{size-is, slot-is, are-three, are-two, replied-is}
 use Rattle.exchange.proofs.ReadBack.{length-bytes, reads-vector, reads-tabulate, same-verdict, AreThree, AreTwo, IsReplyThree, IsReplyFive, IsMiddle}
 use Rattle.exchange.proofs.ReadBack.{length-three-commitments, length-five-commitments, three-commitments-back, five-commitments-back}
 use Rattle.exchange.proofs.ReadBack.{reply-three-length, reply-three-back, reply-three-below, reply-five-length, reply-five-back, reply-five-below}
 use Rattle.exchange.proofs.ReadBack.{middle-length, middle-back, middle-below}
-
--- the first k of a list are elements; beyond the list's end there is the element 0
-front-below : (q k : ℕ) (l : List ℕ) → 0 < q → allBelow q (take k l) ≡ true → (i : ℕ) → i < k → l ! i < q
-front-below q k l pos below i h =
-    rw (← getD-take k l i 0 h)
-    (elim (decLe (length (take k l)) i) [
-      | yes beyond ↦ rw (List·getD-eq-default (take k l) 0 beyond) pos
-      | no within ↦ all-below-at q (take k l) below i (lt-of-not-le within)
-    ])
 
 -- the bytes of the lent vectors are elements
 abbrev pub Lends : List ℕ → List ℕ → Type 0
@@ -66,38 +51,19 @@ abbrev pub fiveReplied : List ℕ → List ℕ → List ℕ → ℕ → ReplyFiv
 fiveReplied b s lent challenge = let l = lentIn (nOf b) (mOf b) lent in replyFive (qOf b) (nOf b) s (l .r0) (l .rhos) challenge
 
 module _ (b : List ℕ) (good : systemRefusal b ≡ 0) where
-  -- ---- what is lent, and the secret
-
-  size-is : opsOf b .size ≡ qOf b
-  size-is = size-of (qOf b) (accepted b good .is-field)
+  -- ---- what is lent
 
   pub lent-is : (lent : List ℕ) → Lends b lent → LentIs b lent
-  unfolding lentIn slotV
+  unfolding lentIn
   lent-is lent h =
+      let front = nOf b + nOf b + mOf b in
       record {
-        r0-is = is-vector (opsOf b) (field (qOf b)) (nOf b) _ (λ i k. element (0 + i) (omega arith));
-        t0-is = is-vector (opsOf b) (field (qOf b)) (nOf b) _ (λ i k. element (nOf b + i) (omega arith));
-        e0-is = is-vector (opsOf b) (field (qOf b)) (mOf b) _ (λ i k. element (nOf b + nOf b + i) (omega arith));
+        r0-is = slot-is b good (nOf b) 0 front lent (omega arith) h;
+        t0-is = slot-is b good (nOf b) (nOf b) front lent (omega arith) h;
+        e0-is = slot-is b good (mOf b) (nOf b + nOf b) front lent (omega arith) h;
       }
-    where
-      element : (i : ℕ) → i < nOf b + nOf b + mOf b → lent ! i < opsOf b .size
-      element = front-below (opsOf b .size) (nOf b + nOf b + mOf b) lent (field (qOf b) .zero-below) (rw size-is h)
-
-  pub secret-is : (s : List ℕ) → length s ≡ nOf b → allBelow (qOf b) s ≡ true → IsX b (vector (length s) (λ i. s ! i))
-  secret-is s long below =
-      rw long (is-vector (opsOf b) (field (qOf b)) (nOf b) _ (λ i h. rw size-is (all-below-at (qOf b) s below i (rw long h))))
 
   -- ---- what the card sends
-
-  replied-is : (w : P.Vectors (List ℕ) (List ℕ)) (ρ : Rhos) → AreElements (IsX b) (IsY b) w → length (ρ .rho0) ≡ 32 → length (ρ .rho1) ≡ 32 → length (ρ .rho2) ≡ 32 →
-      (challenge : ℕ) → IsReplyThree (opsOf b) (nOf b) (mOf b) (replyThree w ρ challenge)
-  unfolding replyThree
-  replied-is w ρ k long0 long1 long2 challenge =
-      either (IsReplyThree (opsOf b) (nOf b) (mOf b)) (eqb challenge 0) _ _
-      (record { x-is = k .r0-is; y-is = k .t1-is; z-is = k .e1-is; first-long = long1; second-long = long2 })
-      (either (IsReplyThree (opsOf b) (nOf b) (mOf b)) (eqb challenge 1) _ _
-      (record { x-is = k .r1-is; y-is = k .t1-is; z-is = k .e1-is; first-long = long0; second-long = long2 })
-      (record { x-is = k .r1-is; y-is = k .t0-is; z-is = k .e0-is; first-long = long0; second-long = long1 }))
 
   -- t1 and e1 do not depend on the secret
   module _ (lent : List ℕ) (h : Lends b lent) (α : ℕ) where
@@ -112,22 +78,22 @@ module _ (b : List ℕ) (good : systemRefusal b ≡ 0) where
     middle-long = let a = accepted b good in middle-length (opsOf b) (nOf b) (mOf b) _ (a .n-high) (a .m-high) middle-is
 
     pub middle-elements : allBelow (qOf b) (middleBytes (nOf b) (mOf b) (fiveMiddle b lent α)) ≡ true
-    middle-elements = rw size-is at (middle-below (opsOf b) (nOf b) (mOf b) _ middle-is)
+    middle-elements = rw (size-is b good) at (middle-below (opsOf b) (nOf b) (mOf b) _ middle-is)
 
   module _ (s lent : List ℕ) where
     pub three-are : AreThree (threeCommitted b s lent)
-    unfolding threeCommitted commitmentsThree Com
-    three-are = record { c0-long = length-sha256 _; c1-long = length-sha256 _; c2-long = length-sha256 _ }
+    unfolding threeCommitted
+    three-are = are-three _ _ _ _
 
     pub five-are : AreTwo (fiveCommitted b s lent)
-    unfolding fiveCommitted commitmentsFive Com
-    five-are = record { c0-long = length-sha256 _; c1-long = length-sha256 _; c2-zero = refl }
+    unfolding fiveCommitted
+    five-are = are-two _ _ _ _ _ _
 
     pub three-reply-is : Lends b lent → (challenge : ℕ) → IsReplyThree (opsOf b) (nOf b) (mOf b) (threeReplied b s lent challenge)
     unfolding threeReplied threeVectors lentIn
     three-reply-is h challenge =
         let k = lent-is lent h in
-        replied-is _ (lentIn (nOf b) (mOf b) lent .rhos) (elements-three b good s _ _ _ (k .r0-is) (k .t0-is) (k .e0-is)) (length-bytes _ lent) (length-bytes _ lent) (length-bytes _ lent) challenge
+        replied-is b _ (lentIn (nOf b) (mOf b) lent .rhos) (elements-three b good s _ _ _ (k .r0-is) (k .t0-is) (k .e0-is)) (length-bytes _ lent) (length-bytes _ lent) (length-bytes _ lent) challenge
 
     pub five-reply-is : Lends b lent → (challenge : ℕ) → IsReplyFive (opsOf b) (nOf b) (fiveReplied b s lent challenge)
     unfolding replyFive lentIn
@@ -204,11 +170,11 @@ module _ (b : List ℕ) (good : systemRefusal b ≡ 0) where
           allBelow (qOf b) (take (nOf b + nOf b + mOf b) (replyThreeBytes (nOf b) (mOf b) (threeReplied b s lent challenge))) ≡ true
       three-reply-below challenge =
           let a = accepted b good in
-          rw size-is at (reply-three-below (opsOf b) (nOf b) (mOf b) _ (a .n-high) (a .m-high) (three-reply-is h challenge))
+          rw (size-is b good) at (reply-three-below (opsOf b) (nOf b) (mOf b) _ (a .n-high) (a .m-high) (three-reply-is h challenge))
 
       pub five-reply-long : (challenge : ℕ) → length (replyFiveBytes (nOf b) (fiveReplied b s lent challenge)) ≡ nOf b + 32
       five-reply-long challenge = reply-five-length (opsOf b) (nOf b) _ (accepted b good .n-high) (five-reply-is h challenge)
 
       pub five-reply-below : (challenge : ℕ) → allBelow (qOf b) (take (nOf b) (replyFiveBytes (nOf b) (fiveReplied b s lent challenge))) ≡ true
       five-reply-below challenge =
-          rw size-is at (reply-five-below (opsOf b) (nOf b) _ (accepted b good .n-high) (five-reply-is h challenge))
+          rw (size-is b good) at (reply-five-below (opsOf b) (nOf b) _ (accepted b good .n-high) (five-reply-is h challenge))

@@ -11,7 +11,8 @@ use Rattle.slices.proofs.Booleans.{and-left, and-right}
 use Rattle.refusal.specs.Refusal.{kept}
 use Rattle.refusal.proofs.Refusals.{kept-accepted, kept-refused}
 use Rattle.scheme.specs.Scheme.{isRounds}
-use Rattle.honest.proofs.Honest.{secret-is}
+use Rattle.system.specs.System.{nOf}
+use Rattle.exchange.proofs.Formed.{held-is}
 use Rattle.session_state.specs.declared.Verdict.the-variants.{Accepted}
 use Rattle.card.specs.declared.session.Card.{Card}
 use Rattle.card.specs.Card as CardCalls
@@ -39,7 +40,7 @@ opens o none =
       scheme-value = k .scheme-value;
       few = omega arith;
       some-rounds = omega arith;
-      secret-is = secret-is (o .system) (k .good) (o .secret) (k .secret-length) (k .secret-elements);
+      secret-is = held-is (o .system) (k .good) (nOf (o .system)) (o .secret) (k .secret-length) (k .secret-elements);
       key-is = k .key;
     }
 

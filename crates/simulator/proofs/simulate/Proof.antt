@@ -5,7 +5,7 @@ use Rattle.refusal.specs.Refusal.{kept}
 use Rattle.refusal.proofs.Refusals.{kept-refused}
 use Rattle.system.proofs.SystemLayout.{accepted}
 use Rattle.simulator.specs.Simulator.{simulateRefusal, simulatedCommitments, simulatedReply}
-use Rattle.simulator.proofs.NotRefused.{system-good, commitments-long, reply-long}
+use Rattle.simulator.proofs.NotRefused.{taken}
 use borrow.Author.Needs.{needs}
 use Rattle.simulator.proofs.simulate.Statement.{statement}
 use Rattle.simulator.proofs.simulate.Tie as tie
@@ -25,16 +25,16 @@ simulate-spec =
     (λ c. (c .before .simulate-refusal .ensures, sym (kept-refused _ _ _ (c .if1 .taken)), sym (kept-refused _ _ _ (c .if1 .taken))))
     (λ c κs. search needs)
     (λ c κs. search needs)
-    (λ c κs. system-good _ _ _ _ _ _ _ (none (c .before .before)))
+    (λ c κs. taken _ _ _ _ _ _ _ (none (c .before .before)) .good)
     (λ c κs. search needs)
     (λ c κs. search needs)
-    (λ c κs. commitments-long _ _ _ _ _ _ _ (none (c .before .before .before .before .before .before)))
+    (λ c κs. taken _ _ _ _ _ _ _ (none (c .before .before .before .before .before .before)) .commitments-room)
     (λ c κs. search needs)
     (λ c κs.
-    let good = accepted _ (system-good _ _ _ _ _ _ _ (none (c .before .before .before .before .before .before .before .before .before .before .before))) in (
+    let good = accepted _ (taken _ _ _ _ _ _ _ (none (c .before .before .before .before .before .before .before .before .before .before .before)) .good) in (
       rw (c .before .before .before .before .before .before .before .before .before .before .byte-at .ensures) (good .n-high),
       rw (c .before .before .before .before .before .before .before .before .before .byte-at2 .ensures) (good .m-high),
-      simp (c .before .before .before .before .before .before .before .before .before .before .byte-at .ensures, c .before .before .before .before .before .before .before .before .before .byte-at2 .ensures) (reply-long _ _ _ _ _ _ _ (none (c .before .before .before .before .before .before .before .before .before .before .before))),
+      simp (c .before .before .before .before .before .before .before .before .before .before .byte-at .ensures, c .before .before .before .before .before .before .before .before .before .byte-at2 .ensures) (taken _ _ _ _ _ _ _ (none (c .before .before .before .before .before .before .before .before .before .before .before)) .reply-room),
     ))
     (λ c. search needs)
     (λ c. search needs)

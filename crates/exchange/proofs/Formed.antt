@@ -1,0 +1,76 @@
+-- What is formed from bytes that are elements, by card or simulator: vectors, commitments and replies have their lengths and elements. Assumes nothing.
+use Prim.Native.Nat.{ℕ, _+_, _≤_, _<_}
+use mathlib.Core.Path.{_≡_, refl}
+use mathlib.Core.Bool.{true}
+use mathlib.Core.List.{List}
+use native.Mathlib.Nat.{lt-of-not-le}
+use native.Mathlib.Decide.{decLe}
+use native.Mathlib.Omega.{arith}
+use lib.Dec.{eqb}
+use lib.ListN.{length, take, List·getD-eq-default}
+use lib.Seq.{getD-take}
+use Rattle.slices.proofs.Booleans.{either}
+use Rattle.slices.specs.Slices.{_!_}
+use Rattle.field.specs.Vector.{held, slotV, IsVector, allBelow}
+use Rattle.field.proofs.Modulus.{size-of}
+use Rattle.field.proofs.Fields.{field}
+use Rattle.sha256.proofs.DigestBytes.{length-sha256}
+use Rattle.commitment.specs.Commitment.{Com}
+use Rattle.system.specs.System.{qOf, nOf, mOf, opsOf, systemRefusal}
+use Rattle.system.proofs.SystemLayout.{accepted, all-below-at}
+use Rattle.protocol.specs.Protocols as P
+use Rattle.protocol.specs.Protocols.{AreElements}
+use Rattle.protocol.specs.Rounds.{IsX, IsY}
+use Rattle.protocol.proofs.SystemMap.{is-vector}
+use Rattle.round.specs.declared.pieces.Rhos.{Rhos}
+use Rattle.round.specs.ThreePass.{commitmentsThree, replyThree}
+use Rattle.round.specs.FivePass.{commitmentsFive}
+use Rattle.exchange.proofs.ReadBack.{AreThree, AreTwo, IsReplyThree}
+
+-- the first k of a list are elements; beyond the list's end there is the element 0
+front-below : (q k : ℕ) (l : List ℕ) → 0 < q → allBelow q (take k l) ≡ true → (i : ℕ) → i < k → l ! i < q
+front-below q k l pos below i h =
+    rw (← getD-take k l i 0 h)
+    (elim (decLe (length (take k l)) i) [
+      | yes beyond ↦ rw (List·getD-eq-default (take k l) 0 beyond) pos
+      | no within ↦ all-below-at q (take k l) below i (lt-of-not-le within)
+    ])
+
+-- ---- vectors
+
+module _ (b : List ℕ) (good : systemRefusal b ≡ 0) where
+  pub size-is : opsOf b .size ≡ qOf b
+  size-is = size-of (qOf b) (accepted b good .is-field)
+
+  -- a list of n elements, held as a vector
+  pub held-is : (n : ℕ) (l : List ℕ) → length l ≡ n → allBelow (qOf b) l ≡ true → IsVector (opsOf b) n (held l)
+  held-is n l long below = rw long (is-vector (opsOf b) (field (qOf b)) n _ (λ i h. rw size-is (all-below-at (qOf b) l below i (rw long h))))
+
+  -- n places among the first k, which are elements
+  pub slot-is : (n place k : ℕ) (l : List ℕ) → place + n ≤ k → allBelow (qOf b) (take k l) ≡ true → IsVector (opsOf b) n (slotV n place l)
+  unfolding slotV
+  slot-is n place k l room below =
+      is-vector (opsOf b) (field (qOf b)) n _ (λ i h.
+      front-below (opsOf b .size) k l (field (qOf b) .zero-below) (rw size-is below) (place + i) (omega arith))
+
+-- ---- commitments
+
+pub are-three : (n m : ℕ) (w : P.Vectors (List ℕ) (List ℕ)) (ρ : Rhos) → AreThree (commitmentsThree n m w ρ)
+unfolding commitmentsThree Com
+are-three n m w ρ = record { c0-long = length-sha256 _; c1-long = length-sha256 _; c2-long = length-sha256 _ }
+
+pub are-two : (b s r0 t0 e0 : List ℕ) (ρ : Rhos) → AreTwo (commitmentsFive b s r0 t0 e0 ρ)
+unfolding commitmentsFive Com
+are-two b s r0 t0 e0 ρ = record { c0-long = length-sha256 _; c1-long = length-sha256 _; c2-zero = refl }
+
+-- ---- a reply of three passes
+
+pub replied-is : (b : List ℕ) (w : P.Vectors (List ℕ) (List ℕ)) (ρ : Rhos) → AreElements (IsX b) (IsY b) w →
+    length (ρ .rho0) ≡ 32 → length (ρ .rho1) ≡ 32 → length (ρ .rho2) ≡ 32 → (challenge : ℕ) → IsReplyThree (opsOf b) (nOf b) (mOf b) (replyThree w ρ challenge)
+unfolding replyThree
+replied-is b w ρ k long0 long1 long2 challenge =
+    either (IsReplyThree (opsOf b) (nOf b) (mOf b)) (eqb challenge 0) _ _
+    (record { x-is = k .r0-is; y-is = k .t1-is; z-is = k .e1-is; first-long = long1; second-long = long2 })
+    (either (IsReplyThree (opsOf b) (nOf b) (mOf b)) (eqb challenge 1) _ _
+    (record { x-is = k .r1-is; y-is = k .t1-is; z-is = k .e1-is; first-long = long0; second-long = long2 })
+    (record { x-is = k .r1-is; y-is = k .t0-is; z-is = k .e0-is; first-long = long0; second-long = long1 }))
