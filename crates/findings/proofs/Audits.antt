@@ -1,30 +1,30 @@
 -- Demand 3's first half for both audits: the laws of each scheme, and the claims. Assumes nothing.
 use Prim.Native.Nat.{ℕ, zero, suc, _<_}
-use mathlib.Core.Path.{_≡_, refl, sym, ap₂, subst, _∙_}
+use mathlib.Core.Path.{_≡_, refl, sym, ap, ap₂, subst, _∙_}
 use mathlib.Core.Bool.{true}
-use mathlib.Core.Logic.{_⊎_, inl, inr, ⊎-elim}
+use mathlib.Core.Logic.{inl, inr}
 use mathlib.Core.List.{List, [], _∷_}
 use native.Mathlib.Omega.{arith}
 use lib.Dec.{eqb}
 use Rattle.slices.proofs.Booleans.{either}
-use Rattle.slices.proofs.Sameness.{same-true}
 use Rattle.system.specs.System.{F, systemRefusal}
 use Rattle.system.proofs.SystemLayout.{accepted}
+use Rattle.round.specs.ThreePass.{firstNumber, secondNumber}
 use Rattle.record.specs.declared.layout.Header.{Header}
 use Rattle.record.specs.Reader.{headerIn}
 use Rattle.transcript.specs.Transcript.{keyVector, roundChallenge}
 use Rattle.comparable.proofs.Front.{Front}
-use Rattle.openings.specs.Openings.{openingIn, compared, sameOpenings, secretOf}
+use Rattle.openings.specs.Openings.{openingIn, secretOf}
 use Rattle.full_set.specs.FullSet.{answering}
-use Rattle.clash.specs.Clash.{lowerChallenge, higherChallenge, leftRecord, rightRecord, leftOpening, rightOpening, samePair, pairs}
+use Rattle.clash.specs.Clash.{lowerChallenge, higherChallenge, leftRecord, rightRecord, samePair, pairs}
 use Rattle.auditing.specs.Audit.{auditThree, auditFive}
-use Rattle.findings.specs.Findings.{Auditable, AllAccepted, FullThree, FullFive, OrderFive, threePass, fivePass, Each, none-left, each, Claim}
+use Rattle.findings.specs.Findings.{Auditable, AllAccepted, FullThree, FullFive, Among, OrderFive, threePass, fivePass, Each, none-left, each, Compared, Claim}
 use Rattle.findings.proofs.Comparing.{auditable, readable, alike, fitting, alike-itself}
 use Rattle.findings.proofs.Rejecting.{three-walk, five-walk}
-use Rattle.findings.proofs.FullSets.{answering-among, answers, AnsweredAll, answered-all, three-full, full-three, five-full, full-five, set-three, set-five}
-use Rattle.findings.proofs.Strings.{Opened, opened-three, opened-five}
+use Rattle.findings.proofs.FullSets.{answering-among, alone, answers, AnsweredAll, answered-all, three-full, full-three, five-full, full-five, set-three, set-five}
+use Rattle.findings.proofs.Strings.{Opened, other-two, opens-other, opened-three, opened-five}
 use Rattle.findings.proofs.Secrets.{three-secret, five-secret}
-use Rattle.findings.proofs.Search.{Sound, AllSound, Laws, audit-claim}
+use Rattle.findings.proofs.Search.{Sound, AllSound, Laws, same-compared, audit-claim}
 
 -- ---- of each record
 
@@ -50,32 +50,19 @@ front-by scheme system a b c d good ka kb kc kd =
       same-d = alike scheme system a d ka kd;
     }
 
--- the openings that are compared agree
-pub same-compared : (scheme : ℕ) (system a b c d : List ℕ) (r k : ℕ) → samePair scheme system a b c d r k ≡ true →
-    compared (openingIn system (leftRecord scheme a b c r k) r k) ≡ compared (openingIn system (rightRecord scheme a b c d r k) r k)
-unfolding samePair sameOpenings leftOpening rightOpening
-same-compared scheme system a b c d r k e = same-true _ _ e
-
 -- within the rounds of the first record, within those of another
 within : (scheme : ℕ) (system a b : List ℕ) (r : ℕ) → Auditable scheme system a b → r < headerIn a .rounds → r < headerIn b .rounds
 within scheme system a b r k h = subst (λ (x : Header). r < x .rounds) (k .same-header) h
 
 -- ---- three passes
 
--- the two challenges that open commitment k
-record Openers (k : ℕ) : Type 0 where
-  low : lowerChallenge k < 3
-  high : higherChallenge k < 3
-  in-order : lowerChallenge k < higherChallenge k
-  low-other : lowerChallenge k ≡ k → ⊥
-  high-other : higherChallenge k ≡ k → ⊥
-
-openers : (k : ℕ) → k < 3 → Openers k
+-- two challenges other than k, in order, are the lower and the higher that open commitment k
+in-order-are : (k x y : ℕ) → k < 3 → x < y → y < 3 → (k ≡ x → ⊥) → (k ≡ y → ⊥) → (x ≡ lowerChallenge k) × (y ≡ higherChallenge k)
 unfolding lowerChallenge higherChallenge
-openers zero h = record { low = omega arith; high = omega arith; in-order = omega arith; low-other = λ e. omega (arith, e); high-other = λ e. omega (arith, e) }
-openers (suc zero) h = record { low = omega arith; high = omega arith; in-order = omega arith; low-other = λ e. omega (arith, e); high-other = λ e. omega (arith, e) }
-openers (suc (suc zero)) h = record { low = omega arith; high = omega arith; in-order = omega arith; low-other = λ e. omega (arith, e); high-other = λ e. omega (arith, e) }
-openers (suc (suc (suc k))) h = absurd (omega arith)
+in-order-are zero x y hk order hy not-x not-y = omega arith
+in-order-are (suc zero) x y hk order hy not-x not-y = omega arith
+in-order-are (suc (suc zero)) x y hk order hy not-x not-y = omega arith
+in-order-are (suc (suc (suc k))) x y hk order hy not-x not-y = omega arith
 
 -- the record that answers challenge j has it
 asked : (a b c : List ℕ) (r : ℕ) → FullThree a b c r → (j : ℕ) → j < 3 → roundChallenge (answering a b c r j) r ≡ j
@@ -95,19 +82,20 @@ module _ (system a b c : List ℕ) where
       let after-b = each-rest P b (c ∷ []) after-a in
       (each-first P a (b ∷ c ∷ []) all, each-first P b (c ∷ []) after-a, each-first P c [] after-b)
 
-  -- so it does of the one that answers a challenge
-  answering-has : (P : List ℕ → Type 0) → Each P (a ∷ b ∷ c ∷ []) → (r j : ℕ) → P (answering a b c r j)
-  answering-has P all r j =
-      let has = three P all in
-      ⊎-elim (λ (e : answering a b c r j ≡ a). subst P (sym e) (has .0))
-      (λ (others : (answering a b c r j ≡ b) ⊎ (answering a b c r j ≡ c)).
-      ⊎-elim (λ (e : answering a b c r j ≡ b). subst P (sym e) (has .1)) (λ (e : answering a b c r j ≡ c). subst P (sym e) (has .2)) others)
-      (answering-among a b c r j)
+  -- so it does of one among them
+  among-has : (P : List ℕ → Type 0) → Each P (a ∷ b ∷ c ∷ []) → (x : List ℕ) → Among a b c x → P x
+  among-has P all x (inl e) = subst P (sym e) (three P all .0)
+  among-has P all x (inr (inl e)) = subst P (sym e) (three P all .1)
+  among-has P all x (inr (inr e)) = subst P (sym e) (three P all .2)
 
-  answering-sound : AllSound (threePass system a b c) → (r j : ℕ) → Sound 3 system a (answering a b c r j)
+  among-sound : AllSound (threePass system a b c) → (x : List ℕ) → Among a b c x → Sound 3 system a x
   unfolding threePass
-  answering-sound s r j =
-      record { auditable = answering-has (Auditable 3 system a) (s .all-auditable) r j; accepted = answering-has (AllAccepted system) (s .all-accepted) r j }
+  among-sound s x among =
+      record { auditable = among-has (Auditable 3 system a) (s .all-auditable) x among; accepted = among-has (AllAccepted system) (s .all-accepted) x among }
+
+  -- the one that answers a challenge is among them
+  answering-sound : AllSound (threePass system a b c) → (r j : ℕ) → Sound 3 system a (answering a b c r j)
+  answering-sound s r j = among-sound s _ (answering-among a b c r j)
 
   answering-opened : AllSound (threePass system a b c) → (r k j : ℕ) → FullThree a b c r → k < 3 → j < 3 → (j ≡ k → ⊥) →
       Opened 3 system (answering a b c r j) r k (openingIn system (answering a b c r j) r k)
@@ -117,8 +105,20 @@ module _ (system a b c : List ℕ) where
       opened-three system (answering a b c r j) r k (accepted system (s .good) .n-high) (accepted system (s .good) .m-high) (answering-sound s r j .auditable .for-scheme)
       (rw has hj) hk (λ e. other (sym has ∙ e))
 
+  -- no other two records of a full set open commitment k
+  only-three : AllSound (threePass system a b c) → (r k : ℕ) → FullThree a b c r → (x y : List ℕ) (p : Compared (threePass system a b c) r k x y) →
+      (k < 3) × (p .left ≡ answering a b c r (lowerChallenge k)) × (p .right ≡ answering a b c r (higherChallenge k))
+  unfolding threePass
+  only-three s r k full x y p =
+      let left = alone a b c r full (p .left) (p .order .left-among) in
+      let right = alone a b c r full (p .right) (p .order .right-among) in
+      let from-left = opens-other system (p .left) r k x (among-sound s (p .left) (p .order .left-among) .auditable .for-scheme) (p .left-opens) in
+      let from-right = opens-other system (p .right) r k y (among-sound s (p .right) (p .order .right-among) .auditable .for-scheme) (p .right-opens) in
+      let are = in-order-are k (roundChallenge (p .left) r) (roundChallenge (p .right) r) (from-left .0) (p .order .lower-first) (right .below) (from-left .1) (from-right .1) in
+      (from-left .0, sym (left .is) ∙ ap (answering a b c r) (are .0), sym (right .is) ∙ ap (answering a b c r) (are .1))
+
   three-laws : Laws (threePass system a b c) b c c
-  unfolding threePass leftRecord rightRecord lowerChallenge higherChallenge pairs
+  unfolding threePass leftRecord rightRecord lowerChallenge higherChallenge firstNumber secondNumber pairs
   three-laws =
       record {
         front-tells = λ k.
@@ -132,7 +132,7 @@ module _ (system a b c : List ℕ) where
         full-when = λ r full. set-three a b c c r ∙ full-three a b c r full;
         secret-solves = secret-solves-three;
         pair-order = λ r k full h.
-            let o = openers k h in
+            let o = other-two k in
             record {
               left-among = answering-among a b c r (lowerChallenge k);
               right-among = answering-among a b c r (higherChallenge k);
@@ -140,8 +140,9 @@ module _ (system a b c : List ℕ) where
             };
         left-sound = λ s r k. answering-sound s r (lowerChallenge k);
         right-sound = λ s r k. answering-sound s r (higherChallenge k);
-        left-opened = λ s r k full h. let o = openers k h in answering-opened s r k (lowerChallenge k) full h (o .low) (o .low-other);
-        right-opened = λ s r k full h. let o = openers k h in answering-opened s r k (higherChallenge k) full h (o .high) (o .high-other);
+        left-opened = λ s r k full h. let o = other-two k in answering-opened s r k (lowerChallenge k) full h (o .low) (o .low-other);
+        right-opened = λ s r k full h. let o = other-two k in answering-opened s r k (higherChallenge k) full h (o .high) (o .high-other);
+        only-pair = only-three;
       }
     where
       secret-solves-three : AllSound (threePass system a b c) → (r : ℕ) → r < headerIn a .rounds → FullThree a b c r →
@@ -214,6 +215,12 @@ module _ (system a b c d : List ℕ) where
   order-five r (suc zero) h = inr (refl, refl, refl)
   order-five r (suc (suc k)) h = absurd (omega arith)
 
+  -- no other order is named
+  only-five : (r k : ℕ) (left right : List ℕ) → OrderFive a b c d r k left right → (k < 2) × (left ≡ leftRecord 5 a b c r k) × (right ≡ rightRecord 5 a b c d r k)
+  unfolding leftRecord rightRecord
+  only-five r k left right (inl e) = (omega (arith, e .0), e .1 ∙ simp (e .0), e .2 ∙ simp (e .0))
+  only-five r k left right (inr e) = (omega (arith, e .0), e .1 ∙ simp (e .0), e .2 ∙ simp (e .0))
+
   left-asked : (r k : ℕ) → FullFive a b c d r → k < 2 → roundChallenge (leftRecord 5 a b c r k) r ≡ k
   unfolding leftRecord
   left-asked r zero full h = full .a-challenge
@@ -254,6 +261,7 @@ module _ (system a b c d : List ℕ) where
         right-sound = λ s r k. right-sound-five (four-sound s) r k;
         left-opened = λ s r k full h. opens-by (s .good) _ r k (left-sound-five (four-sound s) r k) (left-asked r k full h) h;
         right-opened = λ s r k full h. opens-by (s .good) _ r k (right-sound-five (four-sound s) r k) (right-asked r k full h) h;
+        only-pair = λ s r k full x y p. only-five r k (p .left) (p .right) (p .order);
       }
 
   -- the audit of four records of scheme 5

@@ -1,9 +1,10 @@
 -- The full set of a round as it is computed and as document 01 says it. Assumes nothing.
 use Prim.Native.Nat.{ℕ, zero, suc, _<_}
-use mathlib.Core.Path.{_≡_, refl, ap}
+use mathlib.Core.Path.{_≡_, refl, sym, ap, subst}
 use mathlib.Core.Bool.{Bool, true, false, not, _&&_}
 use mathlib.Core.Logic.{_⊎_, inl, inr, ⊎-elim}
 use mathlib.Core.List.{List}
+use native.Mathlib.Nat.{lt-of-not-le}
 use native.Mathlib.Omega.{arith}
 use borrow.Author.Tests.{eqb-true, eqb-false, eq-eqb, ne-eqb, not-true}
 use lib.Dec.{eqb}
@@ -90,6 +91,72 @@ unfolding fullThree
 full-three a b c r full =
     and-both _ _ (answered-when-asked a b c r 0 (full 0 (omega arith)))
     (and-both _ _ (answered-when-asked a b c r 1 (full 1 (omega arith))) (answered-when-asked a b c r 2 (full 2 (omega arith))))
+
+-- u or w is k, where k is below 3
+abbrev OneOf : ℕ → ℕ → ℕ → Type 0
+OneOf u w k = k < 3 → (u ≡ k) ⊎ (w ≡ k)
+
+-- two numbers are not all of 0, 1 and 2
+not-two : (u w : ℕ) → ((k : ℕ) → OneOf u w k) → ⊥
+not-two u w all = go (all 0 (omega arith)) (all 1 (omega arith)) (all 2 (omega arith))
+  where
+    go : (u ≡ 0) ⊎ (w ≡ 0) → (u ≡ 1) ⊎ (w ≡ 1) → (u ≡ 2) ⊎ (w ≡ 2) → ⊥
+    go (inl e) (inl f) g = omega arith
+    go (inr e) (inr f) g = omega arith
+    go (inl e) (inr f) (inl g) = omega arith
+    go (inl e) (inr f) (inr g) = omega arith
+    go (inr e) (inl f) (inl g) = omega arith
+    go (inr e) (inl f) (inr g) = omega arith
+
+-- the record that answers the challenge of x is x
+pub record Alone (a b c : List ℕ) (r : ℕ) (x : List ℕ) : Type 0 where
+  pub below : roundChallenge x r < 3
+  pub is : answering a b c r (roundChallenge x r) ≡ x
+
+module _ (a b c : List ℕ) (r : ℕ) (full : FullThree a b c r) where
+  abbrev a-asks : ℕ
+  a-asks = roundChallenge a r
+
+  abbrev b-asks : ℕ
+  b-asks = roundChallenge b r
+
+  abbrev c-asks : ℕ
+  c-asks = roundChallenge c r
+
+  -- the challenges of a full set are not two numbers
+  three-needed : (u w : ℕ) → OneOf u w a-asks → OneOf u w b-asks → OneOf u w c-asks → ⊥
+  three-needed u w of-a of-b of-c =
+      not-two u w (λ k h.
+      ⊎-elim (λ (e : a-asks ≡ k). subst (OneOf u w) e of-a h)
+      (λ (t : (b-asks ≡ k) ⊎ (c-asks ≡ k)). ⊎-elim (λ (e : b-asks ≡ k). subst (OneOf u w) e of-b h) (λ (e : c-asks ≡ k). subst (OneOf u w) e of-c h) t) (full k h))
+
+  ab-differ : a-asks ≡ b-asks → ⊥
+  ab-differ e = three-needed b-asks c-asks (λ _. inl (sym e)) (λ _. inl refl) (λ _. inr refl)
+
+  ac-differ : a-asks ≡ c-asks → ⊥
+  ac-differ e = three-needed b-asks c-asks (λ _. inr (sym e)) (λ _. inl refl) (λ _. inr refl)
+
+  bc-differ : b-asks ≡ c-asks → ⊥
+  bc-differ e = three-needed a-asks c-asks (λ _. inl refl) (λ _. inr (sym e)) (λ _. inr refl)
+
+  -- so each of its records has one of its own
+  pub alone : (x : List ℕ) → Among a b c x → Alone a b c r x
+  unfolding answering
+  alone x (inl e) =
+      subst (Alone a b c r) (sym e) (record {
+        below = lt-of-not-le (λ high. three-needed b-asks c-asks (λ low. absurd (omega arith)) (λ _. inl refl) (λ _. inr refl));
+        is = simp (eq-eqb a-asks a-asks refl);
+      })
+  alone x (inr (inl e)) =
+      subst (Alone a b c r) (sym e) (record {
+        below = lt-of-not-le (λ high. three-needed a-asks c-asks (λ _. inl refl) (λ low. absurd (omega arith)) (λ _. inr refl));
+        is = simp (ne-eqb a-asks b-asks ab-differ, eq-eqb b-asks b-asks refl);
+      })
+  alone x (inr (inr e)) =
+      subst (Alone a b c r) (sym e) (record {
+        below = lt-of-not-le (λ high. three-needed a-asks b-asks (λ _. inl refl) (λ _. inr refl) (λ low. absurd (omega arith)));
+        is = simp (ne-eqb a-asks c-asks ac-differ, ne-eqb b-asks c-asks bc-differ);
+      })
 
 -- ---- five passes
 

@@ -7,7 +7,7 @@ use mathlib.Core.List.{List, _∷_}
 use native.Mathlib.Omega.{arith}
 use borrow.Author.Tests.{not-true, not-false}
 use lib.ListN.{take, drop}
-use Rattle.slices.proofs.Sameness.{same-by}
+use Rattle.slices.proofs.Sameness.{same-true, same-by}
 use Rattle.sha256.specs.Sha256.{sha256}
 use Rattle.system.specs.System.{F, systemRefusal}
 use Rattle.system.proofs.SystemLayout.{well-formed, not-refused}
@@ -28,10 +28,10 @@ use Rattle.full_set.specs.FullSet.{answering, fullSet, firstFull}
 use Rattle.clash.specs.Clash.{leftRecord, rightRecord, leftOpening, rightOpening, samePair, pairs, firstClash}
 use Rattle.auditing.specs.Audit.{secretAt, clashAt, findingAt, searchOf, auditOf}
 use Rattle.auditing.proofs.Outcomes.{finding-secret, finding-clash, search-none, search-found, audit-refused, audit-rejected, audit-searched}
-use Rattle.findings.specs.Findings.{Auditable, AllAccepted, Each, Scheme, Due, Right, IsFinding, Claim}
+use Rattle.findings.specs.Findings.{Auditable, AllAccepted, Each, Scheme, Due, RoundUsed, Compared, Agree, Right, IsFinding, Claim}
 use Rattle.findings.proofs.Comparing.{front-number}
 use Rattle.findings.proofs.Rejecting.{walk, all-accepted, none-rejected, first-rejected}
-use Rattle.findings.proofs.Strings.{Opened}
+use Rattle.findings.proofs.Strings.{Opened, opened-vectors}
 
 -- a record that is audited, every round of it accepted
 pub record Sound (scheme : ℕ) (system a b : List ℕ) : Type 0 where
@@ -64,6 +64,8 @@ pub record Laws (t : Scheme) (b c d : List ℕ) : Type 0 where
   pub right-opened : AllSound t → (r k : ℕ) → t .Full r → k < pairs (t .scheme) →
       let right = rightRecord (t .scheme) (t .first) b c d r k in
       Opened (t .scheme) (t .system) right r k (openingIn (t .system) right r k)
+  pub only-pair : AllSound t → (r k : ℕ) → t .Full r → (x y : List ℕ) (p : Compared t r k x y) →
+      (k < pairs (t .scheme)) × (p .left ≡ leftRecord (t .scheme) (t .first) b c r k) × (p .right ≡ rightRecord (t .scheme) (t .first) b c d r k)
 
 -- ---- one commitment, opened in two ways
 
@@ -82,6 +84,12 @@ hashes-first scheme system a b r k x s within o =
 differ-compared : (x y : List ℕ) → sameOpenings x y ≡ false → compared x ≡ compared y → ⊥
 unfolding sameOpenings
 differ-compared x y differ e = false≢true (sym differ ∙ same-by (compared x) (compared y) e)
+
+-- the openings that are compared agree
+pub same-compared : (scheme : ℕ) (system a b c d : List ℕ) (r k : ℕ) → samePair scheme system a b c d r k ≡ true →
+    compared (openingIn system (leftRecord scheme a b c r k) r k) ≡ compared (openingIn system (rightRecord scheme a b c d r k) r k)
+unfolding samePair sameOpenings leftOpening rightOpening
+same-compared scheme system a b c d r k e = same-true _ _ e
 
 module _ (t : Scheme) (b c d : List ℕ) (laws : Laws t b c d) where
   abbrev scheme : ℕ
@@ -114,37 +122,68 @@ module _ (t : Scheme) (b c d : List ℕ) (laws : Laws t b c d) where
         full = laws .full-tells r (used .holds);
       }
 
-  secret-right : AllSound t → (r : ℕ) → Used r → firstClash scheme system a b c d r ≡ 0 → Right t (secretAt system a b c r)
-  unfolding Right secretAt firstClash secretOf mapOf
-  secret-right s r used none =
-      let same : (k : ℕ) → k < pairs scheme → samePair scheme system a b c d r k ≡ true =
-      λ k h. not-false _ (where-none (pairs scheme) (λ j. not (samePair scheme system a b c d r j)) none k h)
-      in
-      (quadratic-map system (s .good) .groupX .add-is _ _, laws .secret-solves s r (used .within) (laws .full-tells r (used .holds)) same)
-
-  clash-right : AllSound t → (r : ℕ) → Used r → (k : ℕ) → Differs r k → Right t (clashAt scheme system a b c d r k)
-  unfolding Right clashAt samePair leftOpening rightOpening
-  clash-right s r used k differs =
-      let full = laws .full-tells r (used .holds) in
-      let left = laws .left-opened s r k full (differs .within) in
-      let right = laws .right-opened s r k full (differs .within) in
+  round-used : (r : ℕ) → Used r → RoundUsed t r
+  round-used r used =
       record {
-        round = r;
         round-in = used .within;
-        full = full;
+        full = laws .full-tells r (used .holds);
         first-full = λ j h earlier. false≢true (sym (used .before j h) ∙ laws .full-when j earlier);
+      }
+
+  -- commitment k of a round with the full set is opened in two ways
+  pair-at : AllSound t → (r k : ℕ) → t .Full r → k < pairs scheme → Compared t r k (leftOpening scheme system a b c r k) (rightOpening scheme system a b c d r k)
+  unfolding leftOpening rightOpening
+  pair-at s r k full h =
+      let left = laws .left-opened s r k full h in
+      let right = laws .right-opened s r k full h in
+      record {
         left = leftRecord scheme a b c r k;
         right = rightRecord scheme a b c d r k;
-        order = laws .pair-order r k full (differs .within);
+        order = laws .pair-order r k full h;
         left-opens = left .opens;
         right-opens = right .opens;
-        left-hashes = hashes-first scheme system a _ r k _ (laws .left-sound s r k) (used .within) left;
-        right-hashes = hashes-first scheme system a _ r k _ (laws .right-sound s r k) (used .within) right;
         left-vectors = compared (openingIn system (leftRecord scheme a b c r k) r k);
         right-vectors = compared (openingIn system (rightRecord scheme a b c d r k) r k);
         left-has = left .has;
         right-has = right .has;
+      }
+
+  -- and in no others: where the audit finds the same vectors, they agree
+  agree : AllSound t → (r k : ℕ) → t .Full r → (k < pairs scheme → samePair scheme system a b c d r k ≡ true) → Agree t r k
+  agree s r k full same x y p =
+      let only = laws .only-pair s r k full x y p in
+      opened-vectors scheme system (p .left) _ r k x (p .left-vectors) (only .1) (p .left-opens) (p .left-has) (laws .left-opened s r k full (only .0)) ∙
+      same-compared scheme system a b c d r k (same (only .0)) ∙
+      sym (opened-vectors scheme system (p .right) _ r k y (p .right-vectors) (only .2) (p .right-opens) (p .right-has) (laws .right-opened s r k full (only .0)))
+
+  secret-right : AllSound t → (r : ℕ) → Used r → firstClash scheme system a b c d r ≡ 0 → Right t (secretAt system a b c r)
+  unfolding Right secretAt firstClash secretOf mapOf
+  secret-right s r used none =
+      let round = round-used r used in
+      let same : (k : ℕ) → k < pairs scheme → samePair scheme system a b c d r k ≡ true =
+      λ k h. not-false _ (where-none (pairs scheme) (λ j. not (samePair scheme system a b c d r j)) none k h)
+      in
+      record {
+        is-vector = quadratic-map system (s .good) .groupX .add-is _ _;
+        solves = laws .secret-solves s r (used .within) (round .full) same;
+        round = r;
+        used = round;
+        none-differs = λ k. agree s r k (round .full) (same k);
+      }
+
+  clash-right : AllSound t → (r : ℕ) → Used r → (k : ℕ) → Differs r k → Right t (clashAt scheme system a b c d r k)
+  unfolding Right clashAt samePair leftOpening rightOpening pair-at
+  clash-right s r used k differs =
+      let round = round-used r used in
+      let full = round .full in
+      record {
+        round = r;
+        used = round;
+        pair = pair-at s r k full (differs .within);
         vectors-differ = differ-compared _ _ (not-true _ (differs .holds));
+        first-pair = λ j h. agree s r j full (λ _. not-false _ (differs .before j h));
+        left-hashes = hashes-first scheme system a _ r k _ (laws .left-sound s r k) (used .within) (laws .left-opened s r k full (differs .within));
+        right-hashes = hashes-first scheme system a _ r k _ (laws .right-sound s r k) (used .within) (laws .right-opened s r k full (differs .within));
       }
 
   finding-claim : AllSound t → (r : ℕ) → Used r → Claim t (findingAt scheme system a b c d r)

@@ -34,17 +34,27 @@ use Rattle.findings.specs.Findings.{Opens, first-of-three, second-of-thr
 
 -- ---- a hashed string
 
+-- behind the scheme byte, k and ρ stand its vectors
+behind-ρ : (d : Domain) (k : ℕ) (ρ w : List ℕ) → length ρ ≡ 32 → drop 34 (hashedString d k ρ w) ≡ w
+unfolding hashedString prefix
+behind-ρ d k ρ w long = ap (λ (n : ℕ). drop n (ρ ++ w)) (sym long) ∙ drop-append-seam ρ w
+
 -- what is compared of it are its vectors
 pub compared-vectors : (d : Domain) (k : ℕ) (ρ w : List ℕ) → length ρ ≡ 32 → length w ≤ 288 → compared (hashedString d k ρ w) ≡ w
-unfolding compared hashedString prefix
-compared-vectors d k ρ w long short =
-    let behind : drop 32 (ρ ++ w) ≡ w = ap (λ (n : ℕ). drop n (ρ ++ w)) (sym long) ∙ drop-append-seam ρ w in
-    ap (λ (l : List ℕ). take 288 l) behind ∙ take-all 288 w short
+unfolding compared
+compared-vectors d k ρ w long short = ap (λ (l : List ℕ). take 288 l) (behind-ρ d k ρ w long) ∙ take-all 288 w short
 
 has-vectors : (scheme k : ℕ) (ρ w : List ℕ) → length ρ ≡ 32 → length w ≤ 288 →
     HasVectors scheme k (hashedString (record { scheme = scheme }) k ρ w) (compared (hashedString (record { scheme = scheme }) k ρ w))
 has-vectors scheme k ρ w long short =
     record { ρ = ρ; ρ-length = long; hashed = ap (hashedString (record { scheme = scheme }) k ρ) (sym (compared-vectors (record { scheme = scheme }) k ρ w long short)) }
+
+-- a string has no other vectors
+same-vectors : (scheme k : ℕ) (x u w : List ℕ) → HasVectors scheme k x u → HasVectors scheme k x w → u ≡ w
+same-vectors scheme k x u w p q = sym (are u p) ∙ are w q
+  where
+    are : (v : List ℕ) → HasVectors scheme k x v → drop 34 x ≡ v
+    are v h = ap (drop 34) (h .hashed) ∙ behind-ρ (record { scheme = scheme }) k (h .ρ) v (h .ρ-length)
 
 two-short : (n m : ℕ) (x y : List ℕ) → n ≤ 96 → m ≤ 96 → length (take n x ++ take m y) ≤ 288
 two-short n m x y hn hm = simp (length-append, length-take) (omega arith)
@@ -73,6 +83,26 @@ secondIn system b r = secondString (nOf system) (mOf system) (roundChallenge b r
 
 abbrev committed : List ℕ → ℕ → ℕ → List ℕ
 committed b r k = commitment (commitmentsIn (roundCommitments b r)) k
+
+-- the numbers of the two commitments that challenge k opens, and of the two challenges that open commitment k
+pub record OtherTwo (k : ℕ) : Type 0 where
+  pub low : firstNumber k < 3
+  pub high : secondNumber k < 3
+  pub in-order : firstNumber k < secondNumber k
+  pub low-other : firstNumber k ≡ k → ⊥
+  pub high-other : secondNumber k ≡ k → ⊥
+
+pub other-two : (k : ℕ) → OtherTwo k
+unfolding firstNumber secondNumber
+other-two zero = omega arith
+other-two (suc zero) = omega arith
+other-two (suc (suc zero)) = omega arith
+other-two (suc (suc (suc k))) =
+    let not-zero = ne-eqb (suc (suc (suc k))) 0 (λ e. omega (arith, e)) in
+    let not-one = ne-eqb (suc (suc (suc k))) 1 (λ e. omega (arith, e)) in
+    let low-is : firstNumber (suc (suc (suc k))) ≡ 0 = simp not-zero in
+    let high-is : secondNumber (suc (suc (suc k))) ≡ 1 = simp (not-zero, not-one) in
+    omega (arith, low-is, high-is)
 
 -- which of the two opens commitment k
 first-or-second : (challenge k : ℕ) → challenge < 3 → k < 3 → (challenge ≡ k → ⊥) →
@@ -194,6 +224,26 @@ opened-five system b r k hn hm is asked hk =
       hashes = five-accepted system b r k is asked hk;
       has = has-five system b r k hn hm hk;
     })
+
+-- ---- no other string opens a commitment
+
+-- three passes: a commitment that is opened is another than the challenge
+pub opens-other : (system b : List ℕ) (r k : ℕ) (x : List ℕ) → headerIn b .scheme ≡ 3 → Opens system b r k x → (k < 3) × (k ≡ roundChallenge b r → ⊥)
+opens-other system b r k _ three-passes (first-of-three is e) = let o = other-two (roundChallenge b r) in (omega (arith, e, o), λ same. o .low-other (sym e ∙ same))
+opens-other system b r k _ three-passes (second-of-three is e) = let o = other-two (roundChallenge b r) in (omega (arith, e, o), λ same. o .high-other (sym e ∙ same))
+opens-other system b r k _ three-passes (of-five is e) = absurd (omega (arith, three-passes, is))
+
+opens-is : (system b : List ℕ) (r k : ℕ) (x : List ℕ) → Opens system b r k x → x ≡ openingIn system b r k
+opens-is system b r k _ (first-of-three is e) = sym (three-first system b r k is e)
+opens-is system b r k _ (second-of-three is e) = sym (three-second system b r k is (λ first. omega (arith, e, first, other-two (roundChallenge b r) .in-order)))
+opens-is system b r k _ (of-five is e) = sym (five-is system b r _ is refl) ∙ ap (openingIn system b r) (sym e)
+
+-- so its vectors are those that the audit compares
+pub opened-vectors : (scheme : ℕ) (system b c : List ℕ) (r k : ℕ) (x u : List ℕ) → b ≡ c → Opens system b r k x → HasVectors scheme k x u →
+    Opened scheme system c r k (openingIn system c r k) → u ≡ compared (openingIn system c r k)
+opened-vectors scheme system b c r k x u is opens has opened =
+    same-vectors scheme k _ _ _
+    (subst (λ (y : List ℕ). HasVectors scheme k y u) (opens-is system b r k x opens ∙ ap (λ (l : List ℕ). openingIn system l r k) is) has) (opened .has)
 
 -- ---- the vectors compared
 

@@ -118,24 +118,46 @@ pub record HasVectors (scheme k : ℕ) (x vectors : List ℕ) : Type 0 where
   pub ρ-length : length ρ ≡ 32
   pub hashed : x ≡ hashedString (record { scheme = scheme }) k ρ vectors
 
--- "one commitment of the round used with two openings whose vectors differ, both hashing to it, in the order that document 01 gives"
-pub record TrueClash (t : Scheme) (k : ℕ) (x y : List ℕ) : Type 0 where
-  pub round : ℕ
-  pub round-in : round < headerIn (t .first) .rounds
-  pub full : t .Full round
-  pub first-full : (r : ℕ) → r < round → t .Full r → ⊥
+-- "The first such round is used."
+pub record RoundUsed (t : Scheme) (r : ℕ) : Type 0 where
+  pub round-in : r < headerIn (t .first) .rounds
+  pub full : t .Full r
+  pub first-full : (j : ℕ) → j < r → t .Full j → ⊥
+
+-- "Openings are compared by their vectors": the two openings of commitment k that are compared in round r, their strings x and y, and the vectors of each
+pub record Compared (t : Scheme) (r k : ℕ) (x y : List ℕ) : Type 0 where
   pub left : List ℕ
   pub right : List ℕ
-  pub order : t .Order round k left right
-  pub left-opens : Opens (t .system) left round k x
-  pub right-opens : Opens (t .system) right round k y
-  pub left-hashes : sha256 x ≡ commitment (commitmentsIn (roundCommitments (t .first) round)) k
-  pub right-hashes : sha256 y ≡ commitment (commitmentsIn (roundCommitments (t .first) round)) k
+  pub order : t .Order r k left right
+  pub left-opens : Opens (t .system) left r k x
+  pub right-opens : Opens (t .system) right r k y
   pub left-vectors : List ℕ
   pub right-vectors : List ℕ
   pub left-has : HasVectors (t .scheme) k x left-vectors
   pub right-has : HasVectors (t .scheme) k y right-vectors
-  pub vectors-differ : left-vectors ≡ right-vectors → ⊥
+
+-- the two have equal vectors, "ρ ignored"
+abbrev pub Agree : Scheme → ℕ → ℕ → Type 0
+Agree t r k = (x y : List ℕ) (p : Compared t r k x y) → p .left-vectors ≡ p .right-vectors
+
+-- "one commitment of the round used with two openings whose vectors differ, both hashing to it, in the order that document 01 gives";
+-- "The first pair that differs is the finding"
+pub record TrueClash (t : Scheme) (k : ℕ) (x y : List ℕ) : Type 0 where
+  pub round : ℕ
+  pub used : RoundUsed t round
+  pub pair : Compared t round k x y
+  pub vectors-differ : pair .left-vectors ≡ pair .right-vectors → ⊥
+  pub first-pair : (j : ℕ) → j < k → Agree t round j
+  pub left-hashes : sha256 x ≡ commitment (commitmentsIn (roundCommitments (t .first) round)) k
+  pub right-hashes : sha256 y ≡ commitment (commitmentsIn (roundCommitments (t .first) round)) k
+
+-- "a vector s with F(s) = v", "v is the records' key"; "If none differs, the finding is s"
+pub record TrueSecret (t : Scheme) (s : List ℕ) : Type 0 where
+  pub is-vector : IsX (t .system) s
+  pub solves : F (t .system) s ≡ keyVector (t .first)
+  pub round : ℕ
+  pub used : RoundUsed t round
+  pub none-differs : (k : ℕ) → Agree t round k
 
 -- 8: "first record, then first round, both given, counted from 1"
 pub data FirstRejected (system : List ℕ) : List (List ℕ) → ℕ → ℕ → Type 0 where
@@ -144,9 +166,9 @@ pub data FirstRejected (system : List ℕ) : List (List ℕ) → ℕ → ℕ →
   rejected-later : (b : List ℕ) (bs : List (List ℕ)) (whose round : ℕ) → AllAccepted system b → FirstRejected system bs whose round →
       FirstRejected system (b ∷ bs) (whose + 1) round
 
--- an answer is right: "a vector s with F(s) = v", "v is the records' key"; a true clash; and of the refusals 8 alone names a record and a round, the first that is rejected
+-- an answer is right: a true secret; a true clash; and of the refusals 8 alone names a record and a round, the first that is rejected
 unfoldable pub Right : Scheme → Outcome → Type 0
-Right t (secret s) = IsX (t .system) s × (F (t .system) s ≡ keyVector (t .first))
+Right t (secret s) = TrueSecret t s
 Right t (clash k x y) = TrueClash t k x y
 Right t (refused number whose round) =
     ((number ≡ 8) × FirstRejected (t .system) (t .first ∷ t .others) whose round) ⊎ ((number ≡ 8 → ⊥) × (whose ≡ 0) × (round ≡ 0))
