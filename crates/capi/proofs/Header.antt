@@ -9,6 +9,7 @@ use lib.Dec.{eqb}
 use lib.ListN.{length, length-append}
 use borrow.Author.Tests.{eq-eqb}
 use Rattle.slices.specs.Slices.{_!_}
+use Rattle.slices.proofs.Booleans.{either}
 use Rattle.comparable.specs.Comparable.{frontRefusal, rejectionOf}
 use Rattle.full_set.specs.FullSet.{firstFull}
 use Rattle.clash.specs.Clash.{firstClash}
@@ -27,10 +28,6 @@ unfoldable Numbered : Outcome → Type 0
 Numbered (secret s) = Unit {0}
 Numbered (clash k x y) = Unit {0}
 Numbered (refused number whose round) = number ≡ 0 → ⊥
-
-either : (t : Bool) (x y : Outcome) → Numbered x → Numbered y → Numbered (cond t x y)
-either true x y of-x of-y = of-x
-either false x y of-x of-y = of-y
 
 unless-refused : (early : ℕ) (x : Outcome) → Numbered x → Numbered (cond (eqb early 0) x (refused early 0 0))
 unfolding Numbered
@@ -55,18 +52,18 @@ of-clash scheme system a b c d r k = tt
 
 finding-numbered : (scheme : ℕ) (system a b c d : List ℕ) (r : ℕ) → Numbered (findingAt scheme system a b c d r)
 unfolding findingAt
-finding-numbered scheme system a b c d r = either (eqb (firstClash scheme system a b c d r) 0) _ _ (of-secret system a b c r) (of-clash scheme system a b c d r _)
+finding-numbered scheme system a b c d r = either Numbered (eqb (firstClash scheme system a b c d r) 0) _ _ (of-secret system a b c r) (of-clash scheme system a b c d r _)
 
 search-numbered : (scheme : ℕ) (system a b c d : List ℕ) → Numbered (searchOf scheme system a b c d)
 unfolding searchOf
 search-numbered scheme system a b c d =
-    either (eqb (firstFull scheme a b c d) 0) _ _ (above 9 0 0 (omega arith)) (finding-numbered scheme system a b c d (firstFull scheme a b c d - 1))
+    either Numbered (eqb (firstFull scheme a b c d) 0) _ _ (above 9 0 0 (omega arith)) (finding-numbered scheme system a b c d (firstFull scheme a b c d - 1))
 
 audit-numbered : (scheme : ℕ) (system a b c d : List ℕ) → Numbered (auditOf scheme system a b c d)
 unfolding auditOf
 audit-numbered scheme system a b c d =
     unless-refused (frontRefusal scheme system a b c d) _
-    (either (eqb (rejectionOf scheme system a b c d .whose) 0) _ _ (search-numbered scheme system a b c d) (above 8 _ _ (omega arith)))
+    (either Numbered (eqb (rejectionOf scheme system a b c d .whose) 0) _ _ (search-numbered scheme system a b c d) (above 8 _ _ (omega arith)))
 
 told : (o : Outcome) → Numbered o → auditNumber (answerOf o .finding) ≡ 0 → (findingBytes (answerOf o) ! 0 ≡ 1) ⊎ (findingBytes (answerOf o) ! 0 ≡ 2)
 unfolding Numbered auditNumber answerOf clashed findingBytes front

@@ -22,21 +22,22 @@ pub fn say_start(t: Terms) {
     say(b" rounds\n");
 }
 
-// `refused 5 card open`
-pub fn say_refused(number: u8, call: &[u8]) {
+fn say_refusal(number: u8, call: &[u8]) {
     say(b"refused ");
     say_number(number as u64);
     say(b" ");
     say(call);
+}
+
+// `refused 5 card open`
+pub fn say_refused(number: u8, call: &[u8]) {
+    say_refusal(number, call);
     say(b"\n");
 }
 
 // `refused 3 card commit, round 2`
 pub fn say_refused_in(number: u8, call: &[u8], rounds_before: u8) {
-    say(b"refused ");
-    say_number(number as u64);
-    say(b" ");
-    say(call);
+    say_refusal(number, call);
     say(b", round ");
     say_number(rounds_before as u64 + 1);
     say(b"\n");

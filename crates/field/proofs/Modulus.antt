@@ -1,8 +1,8 @@
 -- What `modulus` is for a q that is a field's and for one that is not. Assumes nothing.
 use Prim.Native.Nat.{ℕ, _*_, _%_, _≤_, _<_}
-use mathlib.Core.Path.{_≡_, refl}
+use mathlib.Core.Path.{_≡_, refl, sym, ap, _∙_}
 use mathlib.Core.Bool.{Bool, true, false, false≢true}
-use native.Mathlib.Nat.{mod-lt, mul-le-mul, pos-of-ne-zero}
+use native.Mathlib.Nat.{mod-lt, mod-one, mul-le-mul, pos-of-ne-zero}
 use lib.Dec.{lit<, lit≤}
 use borrow.Author.Tests.{ne-eqb}
 use Rattle.field.specs.Ops.{isField, modulus, ops}
@@ -19,6 +19,10 @@ size-of = modulus-field
 pub modulus-other : (q : ℕ) → isField q ≡ false → modulus q ≡ 1
 unfolding modulus
 modulus-other q h = simp h
+
+-- the remainder for a q that is no field's
+pub other-remainder : (q x : ℕ) → isField q ≡ false → 0 ≡ x % modulus q
+other-remainder q x h = sym (ap (λ (k : ℕ). x % k) (modulus-other q h) ∙ mod-one x)
 
 pub not-field : (q : ℕ) → (q ≡ 2 → ⊥) → (q ≡ 7 → ⊥) → (q ≡ 31 → ⊥) → (q ≡ 251 → ⊥) → isField q ≡ false
 unfolding isField

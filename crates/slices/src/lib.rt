@@ -1,4 +1,4 @@
-// Reading a slice of bytes by place, with no check left to the caller.
+// Slices of bytes by place: reading, total and 0 beyond the end; comparing; and putting pieces into a lent slice.
 ghost use mathlib.Core.Path.{_≡_};
 ghost use Prim.Native.Nat.{_+_, _≤_};
 ghost use mathlib.Core.List.{_++_};
