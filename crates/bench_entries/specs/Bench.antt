@@ -1,24 +1,17 @@
--- What the benchmarks' functions answer, by the definitions of the entries that they call.
+-- What the benchmarks' contracts cite beside the definitions of the functions that they call: a record's header, and a session after each call of one round.
 use Prim.Native.Nat.{ℕ}
 use mathlib.Core.List.{List}
-use Rattle.refusal.specs.Refusal.{unless, _orElse_, kept}
-use Rattle.system.specs.System.{hasSizes, systemRefusal}
+use Rattle.refusal.specs.Refusal.{kept}
 use Rattle.record.specs.declared.layout.Header.{Header}
-use Rattle.record.specs.Reader.{headerIn, recordRefusal}
 use Rattle.session_state.specs.declared.Verdict.the-variants.{None}
 use Rattle.card.specs.declared.session.Card.{Card}
 use Rattle.card.specs.Card as C
 use Rattle.carrier.specs.declared.session.Carrier.{Carrier}
 use Rattle.carrier.specs.Carrier as R
 
+-- the header with these values
 abbrev pub headerOf : ℕ → ℕ → ℕ → ℕ → ℕ → Header
 headerOf scheme q n m rounds = record { scheme = scheme; q = q; n = n; m = m; rounds = rounds }
-
--- the system, then the record, then whether they belong together, as in the report
-unfoldable pub judgeRefusal : List ℕ → List ℕ → ℕ
-judgeRefusal system b =
-    let h = headerIn b in
-    systemRefusal system orElse recordRefusal b orElse unless (hasSizes system (h .q) (h .n) (h .m)) 7
 
 -- ---- the card's session after each call of its one round
 

@@ -1,2 +1,2 @@
--- What the contracts of this crate cite: a record judged whole, and a session's calls of one round.
+-- What the contracts of this crate cite: a record's header, and a session's calls of one round.
 pub mod Bench

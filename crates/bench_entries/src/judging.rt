@@ -1,32 +1,12 @@
 // A whole record judged, with no text made of it.
 use record::header_of;
-use record::read;
-use record::refusal_of;
-use refusal::first;
-use refusal::unless;
-use system::check;
-use system::has_sizes;
 use transcript::accepts_round;
+use transcript::judge_refusal;
 ghost use mathlib.Core.Path.{_≡_};
 ghost use Rattle.refusal.specs.Refusal.{kept};
 ghost use Rattle.system.specs.System.{systemRefusal};
 ghost use Rattle.record.specs.Reader.{headerIn};
-ghost use Rattle.transcript.specs.Transcript.{acceptedCount};
-ghost use Rattle.bench_entries.specs.Bench.{judgeRefusal};
-
-// The refusal of a system and a record: the system's, the record's, then 7.
-fn judge_refusal<'a>(system: &'a [u8], bytes: &'a [u8]) -> u8
-    ensures { λ r. ⌜ r ≡ judgeRefusal (now (system .entry)) (now (bytes .entry)) ⌝ }
-{
-    let h = header_of(bytes);
-    first(
-        check(system),
-        first(
-            refusal_of(read(bytes)),
-            unless(has_sizes(system, h.q, h.n, h.m), 7),
-        ),
-    )
-}
+ghost use Rattle.transcript.specs.Transcript.{judgeRefusal, acceptedCount};
 
 // How many rounds of a record are accepted.
 fn accepted_rounds<'a>(system: &'a [u8], bytes: &'a [u8]) -> u8

@@ -4,7 +4,8 @@ use mathlib.Core.Path.{_≡_}
 use mathlib.Core.List.{List}
 use Rattle.refusal.proofs.Refusals.{first-zero, later-zero, both-zero}
 use Rattle.system.specs.System.{systemRefusal}
-use Rattle.comparable.specs.Comparable.{auditedRefusal, fitRefusal, differenceRefusal, frontRefusal}
+use Rattle.transcript.specs.Transcript.{fitRefusal}
+use Rattle.comparable.specs.Comparable.{auditedRefusal, differenceRefusal, frontRefusal}
 
 pub record Front (scheme : ℕ) (system a b c d : List ℕ) : Type 0 where
   pub good : systemRefusal system ≡ 0

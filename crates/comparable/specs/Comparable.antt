@@ -6,18 +6,14 @@ use lib.Dec.{eqb}
 use lib.ListN.{take}
 use Rattle.slices.specs.Slices.{same}
 use Rattle.refusal.specs.Refusal.{unless, _orElse_}
-use Rattle.system.specs.System.{hasSizes, systemRefusal}
+use Rattle.system.specs.System.{systemRefusal}
 use Rattle.record.specs.Reader.{headerIn, fieldsIn, recordRefusal}
-use Rattle.transcript.specs.Transcript.{acceptedRound, firstWhere}
+use Rattle.transcript.specs.Transcript.{fitRefusal, acceptedRound, firstWhere}
 use Rattle.comparable.specs.declared.Rejection.{Rejection}
 
 -- "each in turn 6 (size, edition), 1, 6 (table, length), then 3 or 4 ..; a scheme that the audit isn't for is 1"
 unfoldable pub auditedRefusal : ℕ → List ℕ → ℕ
 auditedRefusal scheme b = recordRefusal b orElse unless (eqb (headerIn b .scheme) scheme) 1
-
--- 7: "q, n or m of the system differ from the .. record's"
-unfoldable pub fitRefusal : List ℕ → List ℕ → ℕ
-fitRefusal system b = unless (hasSizes system (headerIn b .q) (headerIn b .n) (headerIn b .m)) 7
 
 -- 7: "audited records differ in a header, key or commitment"; "All bytes before the table are the header."
 unfoldable pub differenceRefusal : List ℕ → List ℕ → ℕ

@@ -13,11 +13,11 @@ use refusal::unless;
 use slices::equal;
 use slices::part;
 use system::check;
-use system::has_sizes;
 use transcript::accepts_round;
+use transcript::fit_refusal;
 ghost use mathlib.Core.Path.{_≡_};
 ghost use Rattle.system.specs.System.{systemRefusal};
-ghost use Rattle.comparable.specs.Comparable.{auditedRefusal, fitRefusal, differenceRefusal, frontRefusal, rejectedRound, laterRejection, rejectionOf};
+ghost use Rattle.comparable.specs.Comparable.{auditedRefusal, differenceRefusal, frontRefusal, rejectedRound, laterRejection, rejectionOf};
 
 // The refusal of one record, 0 for none.
 fn audited_refusal(scheme: u8, bytes: &[u8]) -> u8
@@ -28,14 +28,6 @@ fn audited_refusal(scheme: u8, bytes: &[u8]) -> u8
         return refusal_of(reading);
     };
     unless(layout.header.scheme == scheme, 1)
-}
-
-// 7 where the system has not the q, n and m of a record.
-fn fit_refusal<'a>(system: &'a [u8], bytes: &'a [u8]) -> u8
-    ensures { λ r. ⌜ r ≡ fitRefusal (now (system .entry)) (now (bytes .entry)) ⌝ }
-{
-    let h = header_of(bytes);
-    unless(has_sizes(system, h.q, h.n, h.m), 7)
 }
 
 // 7 where two records differ in the header, the key or a commitment.

@@ -17,7 +17,8 @@ use Rattle.record.specs.Record.{head, written, WellFormedRecord}
 use Rattle.record.specs.Form.{exchangeRefusal, exchangesRefusal}
 use Rattle.record.specs.Reader.{headerIn, fieldsIn, recordRefusal}
 use Rattle.record.proofs.RecordLayout.{well-formed, not-refused}
-use Rattle.comparable.specs.Comparable.{auditedRefusal, fitRefusal, differenceRefusal, frontRefusal}
+use Rattle.transcript.specs.Transcript.{fitRefusal}
+use Rattle.comparable.specs.Comparable.{auditedRefusal, differenceRefusal, frontRefusal}
 use Rattle.findings.specs.Findings.{Auditable}
 
 -- ---- the six bytes before the table are the header

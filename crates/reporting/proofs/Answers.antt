@@ -9,6 +9,7 @@ use borrow.Author.Tests.{eq-eqb, ne-eqb}
 use Rattle.slices.specs.Slices.{placed}
 use Rattle.refusal.proofs.Refusals.{first-zero, later-zero}
 use Rattle.system.specs.System.{systemRefusal}
+use Rattle.transcript.specs.Transcript.{judgeRefusal}
 use Rattle.report_lines.specs.ReportLines.{refusedLine}
 use Rattle.reporting.specs.Report.{systemPart, recordPart, reportRefusal, judgedText, reportText, reportLength, reportOut}
 
@@ -40,5 +41,5 @@ judged-text input text after answer size none ea el fits = text-written input te
 
 -- the system of an input that is not refused is not refused
 pub system-good : (input : List ℕ) → reportRefusal input ≡ 0 → systemRefusal (systemPart input) ≡ 0
-unfolding reportRefusal
+unfolding reportRefusal judgeRefusal
 system-good input none = first-zero _ _ (later-zero _ _ none)

@@ -6,9 +6,9 @@ use lib.Dec.{leb, eqb}
 use lib.ListN.{length, take, drop}
 use Rattle.slices.specs.Slices.{placed}
 use Rattle.refusal.specs.Refusal.{unless, _orElse_}
-use Rattle.system.specs.System.{nOf, mOf, systemLength, hasSizes, systemRefusal}
-use Rattle.record.specs.Reader.{headerIn, recordRefusal}
-use Rattle.transcript.specs.Transcript.{roundChallenge, acceptedRound, acceptedCount}
+use Rattle.system.specs.System.{nOf, mOf, systemLength}
+use Rattle.record.specs.Reader.{headerIn}
+use Rattle.transcript.specs.Transcript.{judgeRefusal, roundChallenge, acceptedRound, acceptedCount}
 use Rattle.report_lines.specs.ReportLines.{roundLine, verdictLine, refusedLine}
 
 -- "Standard input holds a system and then a record": the system ends where its own q, n and m say
@@ -18,14 +18,9 @@ systemPart input = take (systemLength (nOf input) (mOf input)) input
 unfoldable pub recordPart : List ℕ → List ℕ
 recordPart input = drop (systemLength (nOf input) (mOf input)) input
 
--- "65,536 bytes together at most, else it prints `refused 2`"; "Audit and report check the system before any record."
+-- "65,536 bytes together at most, else it prints `refused 2`"; then the system, the record and 7
 unfoldable pub reportRefusal : List ℕ → ℕ
-reportRefusal input =
-    let h = headerIn (recordPart input) in
-    unless (leb (length input) 65536) 2 orElse
-    systemRefusal (systemPart input) orElse
-    recordRefusal (recordPart input) orElse
-    unless (hasSizes (systemPart input) (h .q) (h .n) (h .m)) 7
+reportRefusal input = unless (leb (length input) 65536) 2 orElse judgeRefusal (systemPart input) (recordPart input)
 
 -- the lines of the first n rounds: "All rounds are judged."
 unfoldable pub roundLines : List ℕ → List ℕ → ℕ → List ℕ

@@ -3,8 +3,6 @@
 // The entry `report` takes any bytes. It writes the text to the front of a lent buffer of 8,192 bytes, which holds the longest
 // text, and answers the text's length; a buffer of another length stays as it is, and the answer is 0.
 use record::header_of;
-use record::read;
-use record::refusal_of;
 use refusal::first;
 use refusal::unless;
 use report_lines::refused_line;
@@ -12,10 +10,9 @@ use report_lines::round_line;
 use report_lines::verdict_line;
 use slices::byte_at;
 use slices::part;
-use system::check;
-use system::has_sizes;
 use system::system_length;
 use transcript::accepts_round;
+use transcript::judge_refusal;
 use transcript::round_challenge;
 ghost use mathlib.Core.Path.{_≡_};
 ghost use mathlib.Core.Bool.{cond};
@@ -51,15 +48,11 @@ fn record_part(input: &[u8]) -> &[u8]
 fn report_refusal(input: &[u8]) -> u8
     ensures { λ r. ⌜ r ≡ reportRefusal (now (input .entry)) ⌝ }
 {
-    let system = system_part(input);
-    let bytes = record_part(input);
-    let front = first(unless(input.len() <= 65536, 2), check(system));
-    let h = header_of(bytes);
-    let back = first(
-        refusal_of(read(bytes)),
-        unless(has_sizes(system, h.q, h.n, h.m), 7),
-    );
-    first(front, back)
+    let too_long = unless(input.len() <= 65536, 2);
+    first(
+        too_long,
+        judge_refusal(system_part(input), record_part(input)),
+    )
 }
 
 // One accepted round more, or not.

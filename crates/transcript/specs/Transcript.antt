@@ -1,14 +1,23 @@
--- The rounds of a record, counted from 0: their messages, and whether each is accepted.
+-- The rounds of a record, counted from 0: their messages, whether each is accepted, and what is refused before they are judged.
 use Prim.Native.Nat.{ℕ, zero, suc, _+_, _*_}
 use mathlib.Core.Bool.{Bool, cond}
 use mathlib.Core.List.{List}
 use lib.ListN.{take, drop}
-use Rattle.refusal.specs.Refusal.{_orElse_}
+use Rattle.refusal.specs.Refusal.{unless, _orElse_}
 use Rattle.field.specs.Vector.{held}
 use Rattle.scheme.specs.Scheme as S
+use Rattle.system.specs.System.{hasSizes, systemRefusal}
 use Rattle.record.specs.Record.{exchangeOf, middleOf, challengeOf, replyOf}
-use Rattle.record.specs.Reader.{headerIn, fieldsIn}
+use Rattle.record.specs.Reader.{headerIn, fieldsIn, recordRefusal}
 use Rattle.exchange.specs.Messages.{accepts}
+
+-- 7: "q, n or m of the system differ from the .. record's"
+unfoldable pub fitRefusal : List ℕ → List ℕ → ℕ
+fitRefusal system b = unless (hasSizes system (headerIn b .q) (headerIn b .n) (headerIn b .m)) 7
+
+-- "Audit and report check the system before any record.", then the record, then 7
+unfoldable pub judgeRefusal : List ℕ → List ℕ → ℕ
+judgeRefusal system b = systemRefusal system orElse recordRefusal b orElse fitRefusal system b
 
 -- "Key: v."
 unfoldable pub keyVector : List ℕ → List ℕ

@@ -1,12 +1,17 @@
-// The rounds of a record, counted from 0: their messages, and whether each is accepted.
+// The rounds of a record, counted from 0: their messages, whether each is accepted, and what is refused before they are
+// judged.
 //
-// Nothing here refuses: of a record that is too short, what there is of a message is given. Whoever takes a record from
-// outside reads it first.
+// No message is refused: of a record that is too short, what there is of a message is given. Whoever takes a record from
+// outside reads it first; `judge_refusal` does so, with the system by which the record is judged.
 use exchange::judge;
 use field::from_slice;
 use record::body_of;
 use record::header_of;
 use record::laid_out;
+use record::read;
+use record::refusal_of;
+use refusal::first;
+use refusal::unless;
 use scheme::commitments_length;
 use scheme::exchange_length;
 use scheme::middle_length;
@@ -14,9 +19,29 @@ use scheme::of_rounds;
 use scheme::reply_length;
 use slices::byte_at;
 use slices::part;
+use system::check;
+use system::has_sizes;
 ghost use mathlib.Core.Path.{_≡_};
 ghost use Rattle.system.specs.System.{systemRefusal};
-ghost use Rattle.transcript.specs.Transcript.{keyVector, roundCommitments, roundExchange, roundMiddle, roundChallenge, roundReply, acceptedRound};
+ghost use Rattle.transcript.specs.Transcript.{fitRefusal, judgeRefusal, keyVector, roundCommitments, roundExchange, roundMiddle, roundChallenge, roundReply, acceptedRound};
+
+// 7 where the system has not the q, n and m of a record.
+pub fn fit_refusal<'a>(system: &'a [u8], bytes: &'a [u8]) -> u8
+    ensures { λ r. ⌜ r ≡ fitRefusal (now (system .entry)) (now (bytes .entry)) ⌝ }
+{
+    let h = header_of(bytes);
+    unless(has_sizes(system, h.q, h.n, h.m), 7)
+}
+
+// The refusal of a system and a record that is judged by it, 0 for none.
+pub fn judge_refusal<'a>(system: &'a [u8], bytes: &'a [u8]) -> u8
+    ensures { λ r. ⌜ r ≡ judgeRefusal (now (system .entry)) (now (bytes .entry)) ⌝ }
+{
+    let of_system = check(system);
+    let of_record = refusal_of(read(bytes));
+    let of_both = fit_refusal(system, bytes);
+    first(of_system, first(of_record, of_both))
+}
 
 // v.
 pub fn key_vector(bytes: &[u8]) -> [u8; 96]

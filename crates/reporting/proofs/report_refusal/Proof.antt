@@ -1,5 +1,4 @@
 -- The callees' answers, put together. Assumes nothing.
-use Rattle.refusal.proofs.Refusals.{orElse-assoc}
 use Rattle.reporting.specs.Report.{reportRefusal}
 use borrow.Author.Needs.{needs}
 use Rattle.reporting.proofs.report_refusal.Statement.{statement}
@@ -15,11 +14,4 @@ report-refusal-spec =
     (λ c κs. search needs)
     (λ c κs. search needs)
     (λ c κs. search needs)
-    (λ c κs. search needs)
-    (λ c κs. search needs)
-    (λ c κs. search needs)
-    (λ c κs. search needs)
-    (λ c κs. search needs)
-    (λ c κs. search needs)
-    (λ c κs. search needs)
-    (λ c. simp (orElse-assoc, c .first3 .ensures, c .before .first2 .ensures, c .before .before .unless2 .ensures, c .before .before .before .has-sizes .ensures, c .before .before .before .before .refusal-of .ensures, c .before .before .before .before .before .read .ensures .1, c .before .before .before .before .before .before .header-of .ensures, c .before .before .before .before .before .before .before .first .ensures, c .before .before .before .before .before .before .before .before .check .ensures, c .before .before .before .before .before .before .before .before .before .unless .ensures, c .before .before .before .before .before .before .before .before .before .before .record-part .ensures, c .before .before .before .before .before .before .before .before .before .before .before .system-part .ensures)))
+    (λ c. simp (c .first .ensures, c .before .judge-refusal .ensures, c .before .before .record-part .ensures, c .before .before .before .system-part .ensures, c .before .before .before .before .unless .ensures)))

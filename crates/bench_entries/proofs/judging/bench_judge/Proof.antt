@@ -1,7 +1,7 @@
 -- Refused, or all rounds judged. Assumes nothing.
 use mathlib.Core.Path.{refl, sym, _∙_}
 use Rattle.refusal.proofs.Refusals.{first-zero, kept-refused, kept-accepted}
-use Rattle.bench_entries.specs.Bench.{judgeRefusal}
+use Rattle.transcript.specs.Transcript.{judgeRefusal}
 use borrow.Author.Needs.{needs}
 use Rattle.bench_entries.proofs.judging.bench_judge.Statement.{statement}
 use Rattle.bench_entries.proofs.judging.bench_judge.Tie as tie

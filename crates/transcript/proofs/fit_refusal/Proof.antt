@@ -1,8 +1,8 @@
 -- The callees' answers, put together. Assumes nothing.
-use Rattle.comparable.specs.Comparable.{fitRefusal}
+use Rattle.transcript.specs.Transcript.{fitRefusal}
 use borrow.Author.Needs.{needs}
-use Rattle.comparable.proofs.fit_refusal.Statement.{statement}
-use Rattle.comparable.proofs.fit_refusal.Tie as tie
+use Rattle.transcript.proofs.fit_refusal.Statement.{statement}
+use Rattle.transcript.proofs.fit_refusal.Tie as tie
 
 pub fit-refusal-spec : {M : Type 1} → statement M
 unfolding fitRefusal
