@@ -12,6 +12,7 @@ use record::laid_out;
 use record::record_length;
 use record_writer::write;
 use reporting::report;
+use reporting::text_buffer;
 use slices::part;
 use slices::put;
 
@@ -20,13 +21,6 @@ fn both_buffer() -> [u8; 1065536]
     ensures { λ r. ⌜ 1065536 ≡ length r ⌝ }
 {
     [0; 1065536]
-}
-
-// Room for the longest report.
-fn text_buffer() -> [u8; 8192]
-    ensures { λ r. ⌜ 8192 ≡ length r ⌝ }
-{
-    [0; 8192]
 }
 
 // Writes the record and reports on it, and answers whether the writer refused nothing.

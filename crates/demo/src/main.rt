@@ -23,22 +23,16 @@ use crate::say::say_ends;
 use crate::say::say_refused;
 use crate::say::say_start;
 use libc::STDIN_FILENO;
+use reporting::input_buffer;
+use reporting::system_part;
 use scheme::of_rounds;
 use slices::byte_at;
 use slices::part;
-use system::system_length;
 
 fn main() {
     let mut input = input_buffer();
     let length = io::read_full(STDIN_FILENO, &mut input);
     run(&input[..length]);
-}
-
-// Room for the longest input and one byte more, by which an input that is too long shows.
-fn input_buffer() -> [u8; 65537]
-    ensures { λ r. ⌜ 65537 ≡ length r ⌝ }
-{
-    [0; 65537]
 }
 
 // Room for the messages of all rounds, whatever a round's length.
@@ -50,11 +44,7 @@ fn messages_buffer() -> [u8; 343296]
 
 // Takes the system from the front of the input. An input that is too long, or has no session, is refused.
 fn run(input: &[u8]) {
-    let system = part(
-        input,
-        0,
-        system_length(byte_at(input, 1), byte_at(input, 2)),
-    );
+    let system = system_part(input);
     if input.len() <= system.len() {
         say_refused(2, b"input");
         return;

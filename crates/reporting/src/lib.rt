@@ -22,8 +22,22 @@ ghost use Rattle.slices.specs.Slices.{placed};
 ghost use Rattle.system.specs.System.{systemRefusal};
 ghost use Rattle.reporting.specs.Report.{systemPart, recordPart, reportRefusal, judgedText, reportLength, reportOut};
 
+// Room for the longest input and one byte more, by which an input that is too long shows.
+pub fn input_buffer() -> [u8; 65537]
+    ensures { λ r. ⌜ 65537 ≡ length r ⌝ }
+{
+    [0; 65537]
+}
+
+// Room for the longest text.
+pub fn text_buffer() -> [u8; 8192]
+    ensures { λ r. ⌜ 8192 ≡ length r ⌝ }
+{
+    [0; 8192]
+}
+
 // The system at the front of the input.
-fn system_part(input: &[u8]) -> &[u8]
+pub fn system_part(input: &[u8]) -> &[u8]
     ensures { λ r. ⌜ now r ≡ systemPart (now (input .entry)) ⌝ }
 {
     part(
