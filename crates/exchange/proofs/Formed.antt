@@ -7,8 +7,8 @@ use native.Mathlib.Nat.{lt-of-not-le}
 use native.Mathlib.Decide.{decLe}
 use native.Mathlib.Omega.{arith}
 use lib.Dec.{eqb}
-use lib.ListN.{length, take, List·getD-eq-default}
-use lib.Seq.{getD-take}
+use lib.ListN.{length, take, drop, length-take, List·getD-eq-default}
+use lib.Seq.{getD-take, getD-drop}
 use Rattle.slices.proofs.Booleans.{either}
 use Rattle.slices.specs.Slices.{_!_}
 use Rattle.field.specs.Vector.{held, slotV, IsVector, allBelow}
@@ -17,7 +17,7 @@ use Rattle.field.proofs.Fields.{field}
 use Rattle.sha256.proofs.DigestBytes.{length-sha256}
 use Rattle.commitment.specs.Commitment.{Com}
 use Rattle.system.specs.System.{qOf, nOf, mOf, opsOf, systemRefusal}
-use Rattle.system.proofs.SystemLayout.{accepted, all-below-at}
+use Rattle.system.proofs.SystemLayout.{accepted, all-below-at, at-all-below}
 use Rattle.protocol.specs.Protocols as P
 use Rattle.protocol.specs.Protocols.{AreElements}
 use Rattle.protocol.specs.Rounds.{IsX, IsY}
@@ -25,6 +25,7 @@ use Rattle.protocol.proofs.SystemMap.{is-vector}
 use Rattle.round.specs.declared.pieces.Rhos.{Rhos}
 use Rattle.round.specs.ThreePass.{commitmentsThree, replyThree}
 use Rattle.round.specs.FivePass.{commitmentsFive}
+use Rattle.exchange.specs.Messages.{lentIn}
 use Rattle.exchange.proofs.ReadBack.{AreThree, AreTwo, IsReplyThree}
 
 -- the first k of a list are elements; beyond the list's end there is the element 0
@@ -37,6 +38,16 @@ front-below q k l pos below i h =
     ])
 
 -- ---- vectors
+
+-- the bytes of the lent vectors are elements
+abbrev pub Lends : List ℕ → List ℕ → Type 0
+Lends b lent = allBelow (qOf b) (take (nOf b + nOf b + mOf b) lent) ≡ true
+
+-- the lent vectors are vectors of n, n and m elements
+pub record LentIs (b lent : List ℕ) : Type 0 where
+  pub r0-is : IsX b (lentIn (nOf b) (mOf b) lent .r0)
+  pub t0-is : IsX b (lentIn (nOf b) (mOf b) lent .t0)
+  pub e0-is : IsY b (lentIn (nOf b) (mOf b) lent .e0)
 
 module _ (b : List ℕ) (good : systemRefusal b ≡ 0) where
   pub size-is : opsOf b .size ≡ qOf b
@@ -52,6 +63,23 @@ module _ (b : List ℕ) (good : systemRefusal b ≡ 0) where
   slot-is n place k l room below =
       is-vector (opsOf b) (field (qOf b)) n _ (λ i h.
       front-below (opsOf b .size) k l (field (qOf b) .zero-below) (rw size-is below) (place + i) (omega arith))
+
+  pub lent-is : (lent : List ℕ) → Lends b lent → LentIs b lent
+  unfolding lentIn
+  lent-is lent h =
+      let front = nOf b + nOf b + mOf b in
+      record {
+        r0-is = slot-is (nOf b) 0 front lent (omega arith) h;
+        t0-is = slot-is (nOf b) (nOf b) front lent (omega arith) h;
+        e0-is = slot-is (mOf b) (nOf b + nOf b) front lent (omega arith) h;
+      }
+
+  -- what is lent behind n other elements
+  pub lends-behind : (n all : ℕ) (l : List ℕ) → all ≡ n + (nOf b + nOf b + mOf b) → allBelow (qOf b) (take all l) ≡ true → Lends b (drop n l)
+  lends-behind n all l long below =
+      at-all-below (qOf b) _ (λ i h.
+      let within : i < nOf b + nOf b + mOf b = omega (arith, h, length-take (nOf b + nOf b + mOf b) (drop n l)) in
+      rw (getD-take (nOf b + nOf b + mOf b) (drop n l) i 0 within, getD-drop n l i 0) (front-below (qOf b) all l (rw (← size-is) (field (qOf b) .zero-below)) below (n + i) (omega arith)))
 
 -- ---- commitments
 

@@ -14,7 +14,7 @@ use Rattle.system.specs.System.{qOf, nOf, mOf, opsOf, systemRefusal, F}
 use Rattle.system.proofs.SystemLayout.{accepted}
 use Rattle.protocol.specs.Protocols as P
 use Rattle.protocol.specs.Protocols.{cardFive, t1By, e1By}
-use Rattle.protocol.specs.Rounds.{mapOf, IsX, IsY}
+use Rattle.protocol.specs.Rounds.{mapOf, IsX}
 use Rattle.protocol.proofs.SystemMap.{vectors}
 use Rattle.protocol.proofs.Rounds.{elements-three, elements-five}
 use Rattle.round.specs.declared.pieces.Commitments.{Commitments}
@@ -27,21 +27,11 @@ use Rattle.round.proofs.Acceptance.{accepted-three, accepted-five}
 use Rattle.exchange.specs.Messages.{lentIn, accepts}
 use Rattle.exchange.specs.Messages.{threeCommitments, fiveCommitments, replyThreeBytes, middleBytes, replyFiveBytes}
 use Rattle.exchange.specs.Card.{threeVectors, threeCommitted, threeReplied, fiveCommitted}
-use Rattle.exchange.proofs.Formed.{size-is, slot-is, are-three, are-two, replied-is}
+use Rattle.exchange.proofs.Formed.{size-is, Lends, lent-is, are-three, are-two, replied-is}
 use Rattle.exchange.proofs.ReadBack.{length-bytes, reads-vector, reads-tabulate, same-verdict, AreThree, AreTwo, IsReplyThree, IsReplyFive, IsMiddle}
 use Rattle.exchange.proofs.ReadBack.{length-three-commitments, length-five-commitments, three-commitments-back, five-commitments-back}
 use Rattle.exchange.proofs.ReadBack.{reply-three-length, reply-three-back, reply-three-below, reply-five-length, reply-five-back, reply-five-below}
 use Rattle.exchange.proofs.ReadBack.{middle-length, middle-back, middle-below}
-
--- the bytes of the lent vectors are elements
-abbrev pub Lends : List ℕ → List ℕ → Type 0
-Lends b lent = allBelow (qOf b) (take (nOf b + nOf b + mOf b) lent) ≡ true
-
--- the lent vectors are vectors of n, n and m elements
-pub record LentIs (b lent : List ℕ) : Type 0 where
-  pub r0-is : IsX b (lentIn (nOf b) (mOf b) lent .r0)
-  pub t0-is : IsX b (lentIn (nOf b) (mOf b) lent .t0)
-  pub e0-is : IsY b (lentIn (nOf b) (mOf b) lent .e0)
 
 -- what a card sends in a round of five passes: t1 and e1 for α, and the reply
 abbrev pub fiveMiddle : List ℕ → List ℕ → ℕ → Middle
@@ -51,18 +41,6 @@ abbrev pub fiveReplied : List ℕ → List ℕ → List ℕ → ℕ → ReplyFiv
 fiveReplied b s lent challenge = let l = lentIn (nOf b) (mOf b) lent in replyFive (qOf b) (nOf b) s (l .r0) (l .rhos) challenge
 
 module _ (b : List ℕ) (good : systemRefusal b ≡ 0) where
-  -- ---- what is lent
-
-  pub lent-is : (lent : List ℕ) → Lends b lent → LentIs b lent
-  unfolding lentIn
-  lent-is lent h =
-      let front = nOf b + nOf b + mOf b in
-      record {
-        r0-is = slot-is b good (nOf b) 0 front lent (omega arith) h;
-        t0-is = slot-is b good (nOf b) (nOf b) front lent (omega arith) h;
-        e0-is = slot-is b good (mOf b) (nOf b + nOf b) front lent (omega arith) h;
-      }
-
   -- ---- what the card sends
 
   -- t1 and e1 do not depend on the secret
@@ -70,7 +48,7 @@ module _ (b : List ℕ) (good : systemRefusal b ≡ 0) where
     pub middle-is : IsMiddle (opsOf b) (nOf b) (mOf b) (fiveMiddle b lent α)
     unfolding cardFive
     middle-is =
-        let k = lent-is lent h in
+        let k = lent-is b good lent h in
         let e = elements-five b good α lent _ _ _ (k .r0-is) (k .t0-is) (k .e0-is) in
         record { t1-is = e .t1-is; e1-is = e .e1-is }
 
@@ -92,14 +70,14 @@ module _ (b : List ℕ) (good : systemRefusal b ≡ 0) where
     pub three-reply-is : Lends b lent → (challenge : ℕ) → IsReplyThree (opsOf b) (nOf b) (mOf b) (threeReplied b s lent challenge)
     unfolding threeReplied threeVectors lentIn
     three-reply-is h challenge =
-        let k = lent-is lent h in
+        let k = lent-is b good lent h in
         replied-is b _ (lentIn (nOf b) (mOf b) lent .rhos) (elements-three b good s _ _ _ (k .r0-is) (k .t0-is) (k .e0-is)) (length-bytes _ lent) (length-bytes _ lent) (length-bytes _ lent) challenge
 
     pub five-reply-is : Lends b lent → (challenge : ℕ) → IsReplyFive (opsOf b) (nOf b) (fiveReplied b s lent challenge)
     unfolding replyFive lentIn
     five-reply-is h challenge =
         either (IsReplyFive (opsOf b) (nOf b)) (eqb challenge 0) _ _
-        (record { x-is = lent-is lent h .r0-is; rho-long = length-bytes _ lent })
+        (record { x-is = lent-is b good lent h .r0-is; rho-long = length-bytes _ lent })
         (record { x-is = vectors (opsOf b) (field (qOf b)) (nOf b) .sub-is s _; rho-long = length-bytes _ lent })
 
     -- ---- is accepted
@@ -110,7 +88,7 @@ module _ (b : List ℕ) (good : systemRefusal b ≡ 0) where
       unfolding accepts threeCommitted threeReplied threeVectors
       honest-three middle challenge small =
           let a = accepted b good in
-          let k = lent-is lent h in
+          let k = lent-is b good lent h in
           let l = lentIn (nOf b) (mOf b) lent in
           ap₂ (λ (c : Commitments) (r : ReplyThree). acceptsThree b v c challenge r) (three-commitments-back _ three-are)
           (reply-three-back (opsOf b) (nOf b) (mOf b) _ (a .n-high) (a .m-high) (three-reply-is h challenge)) ∙
@@ -122,7 +100,7 @@ module _ (b : List ℕ) (good : systemRefusal b ≡ 0) where
       unfolding accepts fiveCommitted
       honest-five α challenge small =
           let a = accepted b good in
-          let k = lent-is lent h in
+          let k = lent-is b good lent h in
           let l = lentIn (nOf b) (mOf b) lent in
           rw (five-commitments-back _ five-are, middle-back (opsOf b) (nOf b) (mOf b) α (fiveMiddle b lent α) (a .n-high) (a .m-high) (middle-is lent h α), reply-five-back (opsOf b) (nOf b) (fiveReplied b s lent challenge) (a .n-high) (five-reply-is h challenge))
           (accepted-five b v (l .rhos) good α s (l .r0) (l .t0) (l .e0) hs (k .t0-is) (k .e0-is) key challenge small)

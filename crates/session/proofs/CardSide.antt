@@ -20,7 +20,7 @@ use Rattle.protocol.specs.Protocols.{cardThree, r1Of, t1Of}
 use Rattle.protocol.specs.Rounds.{mapOf}
 use Rattle.round.specs.ThreePass.{replyThree}
 use Rattle.exchange.specs.Card.{threeVectors, threeReplied}
-use Rattle.honest.proofs.Honest.{Lends}
+use Rattle.exchange.proofs.Formed.{Lends}
 use Rattle.session_state.specs.State.{nextCount}
 use Rattle.session_state.proofs.States.{count-below}
 use Rattle.card.specs.declared.session.CardPhase.{CardPhase}

@@ -11,7 +11,8 @@ use Rattle.system.specs.System.{nOf, mOf}
 use Rattle.scheme.specs.Scheme.{challenges}
 use Rattle.exchange.specs.Messages.{lentIn, threeCommitments, fiveCommitments, middleBytes, replyThreeBytes, replyFiveBytes}
 use Rattle.exchange.specs.Card.{threeVectors, threeCommitted, threeReplied, fiveCommitted}
-use Rattle.honest.proofs.Honest.{Lends, fiveMiddle, fiveReplied}
+use Rattle.exchange.proofs.Formed.{Lends}
+use Rattle.honest.proofs.Honest.{fiveMiddle, fiveReplied}
 use Rattle.session_state.specs.declared.Verdict.the-variants.{Accepted}
 use Rattle.card.specs.declared.session.CardPhase.{CardPhase}
 use Rattle.card.specs.declared.session.CardPhase.the-variants.{Commit, AnswerAlpha, Reply}

@@ -1,23 +1,23 @@
 -- "A reply to Ch ≠ Ch* is accepted": what the simulator writes is accepted, at the bytes, and has its lengths. Assumes nothing.
-use Prim.Native.Nat.{ℕ, _+_, _≤_}
+use Prim.Native.Nat.{ℕ, _+_}
 use mathlib.Core.Path.{_≡_, ap₂, _∙_}
 use mathlib.Core.Bool.{true}
 use mathlib.Core.List.{List}
 use native.Mathlib.Omega.{arith}
-use lib.ListN.{length}
-use Rattle.field.specs.Vector.{held, slotV, IsVector}
+use lib.ListN.{length, drop}
+use Rattle.field.specs.Vector.{held, slotV}
 use Rattle.system.specs.System.{nOf, mOf, opsOf}
 use Rattle.system.proofs.SystemLayout.{accepted}
-use Rattle.protocol.specs.Rounds.{IsX, IsY}
+use Rattle.protocol.specs.Rounds.{IsX}
 use Rattle.protocol.proofs.Rounds.{elements-simulated}
 use Rattle.round.specs.declared.pieces.Commitments.{Commitments}
 use Rattle.round.specs.declared.pieces.ReplyThree.{ReplyThree}
 use Rattle.round.specs.ThreePass.{replyThree, acceptsThree}
 use Rattle.round.proofs.Acceptance.{accepted-simulated}
-use Rattle.exchange.specs.Messages.{accepts}
+use Rattle.exchange.specs.Messages.{lentIn, accepts}
 use Rattle.exchange.proofs.ReadBack.{IsReplyThree, length-bytes, length-three-commitments, three-commitments-back, reply-three-length, reply-three-back}
-use Rattle.exchange.proofs.Formed.{held-is, slot-is, are-three, replied-is}
-use Rattle.simulator.specs.Simulator.{simulateRefusal, vectorsIn, rhosIn, simulatedCommitments, simulatedReply}
+use Rattle.exchange.proofs.Formed.{LentIs, held-is, slot-is, lent-is, lends-behind, are-three, replied-is}
+use Rattle.simulator.specs.Simulator.{simulateRefusal, lentBehind, vectorsFrom, vectorsIn, simulatedCommitments, simulatedReply}
 use Rattle.simulator.proofs.NotRefused.{Taken, taken}
 
 -- the commitments have their length whatever is lent
@@ -29,30 +29,22 @@ module _ (b v : List ℕ) (guess challenge : ℕ) (lent : List ℕ) (commitments
   k : Taken b v guess challenge lent commitments reply
   k = taken b v guess challenge lent commitments reply none
 
-  -- ---- what is lent: s', r0, t0, e0
-
-  slot : (n place : ℕ) → place + n ≤ nOf b + nOf b + nOf b + mOf b → IsVector (opsOf b) n (slotV n place lent)
-  slot n place room = slot-is b (k .good) n place _ lent room (k .lent-elements)
+  -- ---- what is lent: s', then as to a card
 
   s-is : IsX b (slotV (nOf b) 0 lent)
-  s-is = slot (nOf b) 0 (omega arith)
+  s-is = slot-is b (k .good) (nOf b) 0 (nOf b + nOf b + nOf b + mOf b) lent (omega arith) (k .lent-elements)
 
-  r0-is : IsX b (slotV (nOf b) (nOf b) lent)
-  r0-is = slot (nOf b) (nOf b) (omega arith)
-
-  t0-is : IsX b (slotV (nOf b) (nOf b + nOf b) lent)
-  t0-is = slot (nOf b) (nOf b + nOf b) (omega arith)
-
-  e0-is : IsY b (slotV (mOf b) (nOf b + nOf b + nOf b) lent)
-  e0-is = slot (mOf b) (nOf b + nOf b + nOf b) (omega arith)
+  behind-is : LentIs b (drop (nOf b) lent)
+  behind-is = lent-is b (k .good) _ (lends-behind b (k .good) (nOf b) (nOf b + nOf b + nOf b + mOf b) lent (omega arith) (k .lent-elements))
 
   -- ---- what is written
 
-  reply-is : IsReplyThree (opsOf b) (nOf b) (mOf b) (replyThree (vectorsIn b guess v lent) (rhosIn (nOf b) (mOf b) lent) challenge)
-  unfolding vectorsIn rhosIn
+  reply-is : IsReplyThree (opsOf b) (nOf b) (mOf b) (replyThree (vectorsIn b guess v lent) (lentBehind (nOf b) (mOf b) lent .rhos) challenge)
+  unfolding vectorsIn vectorsFrom lentBehind lentIn
   reply-is =
-      replied-is b _ (rhosIn (nOf b) (mOf b) lent) (elements-simulated b (k .good) guess (held v) (slotV (nOf b) 0 lent) _ _ _ r0-is t0-is e0-is)
-      (length-bytes _ lent) (length-bytes _ lent) (length-bytes _ lent) challenge
+      replied-is b _ (lentBehind (nOf b) (mOf b) lent .rhos)
+      (elements-simulated b (k .good) guess (held v) (slotV (nOf b) 0 lent) _ _ _ (behind-is .r0-is) (behind-is .t0-is) (behind-is .e0-is))
+      (length-bytes _ (drop (nOf b) lent)) (length-bytes _ (drop (nOf b) lent)) (length-bytes _ (drop (nOf b) lent)) challenge
 
   pub simulated-reply-long : length (simulatedReply b v guess challenge lent) ≡ nOf b + nOf b + mOf b + 64
   unfolding simulatedReply
@@ -61,10 +53,10 @@ module _ (b v : List ℕ) (guess challenge : ℕ) (lent : List ℕ) (commitments
   -- "A reply to Ch ≠ Ch* is accepted": α, t1 and e1 are of five passes alone, so `middle` is any list
   pub simulated-accepted : (middle : List ℕ) →
       accepts b 3 (held v) (simulatedCommitments b v guess lent) middle challenge (simulatedReply b v guess challenge lent) ≡ true
-  unfolding accepts simulatedCommitments simulatedReply vectorsIn
+  unfolding accepts simulatedCommitments simulatedReply vectorsIn vectorsFrom lentBehind
   simulated-accepted middle =
       let a = accepted b (k .good) in
       ap₂ (λ (c : Commitments) (r : ReplyThree). acceptsThree b (held v) c challenge r) (three-commitments-back _ (are-three _ _ _ _))
       (reply-three-back (opsOf b) (nOf b) (mOf b) _ (a .n-high) (a .m-high) reply-is) ∙
-      accepted-simulated b (held v) (rhosIn (nOf b) (mOf b) lent) (k .good) guess (k .guess-value) _ _ _ _
-      (held-is b (k .good) (mOf b) v (k .key-length) (k .key-elements)) s-is r0-is t0-is e0-is challenge (k .challenge-value) (k .other)
+      accepted-simulated b (held v) (lentBehind (nOf b) (mOf b) lent .rhos) (k .good) guess (k .guess-value) _ _ _ _
+      (held-is b (k .good) (mOf b) v (k .key-length) (k .key-elements)) s-is (behind-is .r0-is) (behind-is .t0-is) (behind-is .e0-is) challenge (k .challenge-value) (k .other)

@@ -3,16 +3,15 @@ use Prim.Native.Nat.{ℕ, _+_}
 use mathlib.Core.Bool.{not}
 use mathlib.Core.List.{List}
 use lib.Dec.{leb, eqb}
-use lib.ListN.{length, take}
-use Rattle.slices.specs.Slices.{_!_}
+use lib.ListN.{length, take, drop}
 use Rattle.refusal.specs.Refusal.{unless, _orElse_}
-use Rattle.field.specs.Vector.{vector, slotV, allBelow}
+use Rattle.field.specs.Vector.{held, slotV, allBelow}
 use Rattle.system.specs.System.{qOf, nOf, mOf, systemRefusal}
 use Rattle.protocol.specs.Protocols.{Vectors, simulated}
 use Rattle.protocol.specs.Rounds.{mapOf}
-use Rattle.round.specs.declared.pieces.Rhos.{Rhos}
 use Rattle.round.specs.ThreePass.{commitmentsThree, replyThree}
-use Rattle.exchange.specs.Messages.{bytesAt, threeCommitments, replyThreeBytes}
+use Rattle.exchange.specs.declared.read.Lent.{Lent}
+use Rattle.exchange.specs.Messages.{lentIn, threeCommitments, replyThreeBytes}
 
 -- the system; all 2, all 3; then 4: "Ch = Ch* is refused with 4"
 unfoldable pub simulateRefusal : List ℕ → List ℕ → ℕ → ℕ → List ℕ → ℕ → ℕ → ℕ
@@ -25,20 +24,19 @@ simulateRefusal b v guess challenge lent commitments reply =
     (unless (allBelow (qOf b) v) 3 orElse unless (allBelow (qOf b) (take (n + n + n + m) lent)) 3) orElse
     (unless (leb guess 2) 4 orElse unless (leb challenge 2) 4 orElse unless (not (eqb guess challenge)) 4)
 
--- "lent s', r0, t0, e0, ρ0..ρ2"
-unfoldable pub vectorsIn : List ℕ → ℕ → List ℕ → List ℕ → Vectors (List ℕ) (List ℕ)
-vectorsIn b guess v lent =
-    let n = nOf b in
-    simulated (mapOf b) guess (vector (length v) (λ i. v ! i)) (slotV n 0 lent) (slotV n n lent) (slotV n (n + n) lent) (slotV (mOf b) (n + n + n) lent)
+-- "lent s', r0, t0, e0, ρ0..ρ2": behind s' what a card is lent
+unfoldable pub lentBehind : ℕ → ℕ → List ℕ → Lent
+lentBehind n m lent = lentIn n m (drop n lent)
 
-unfoldable pub rhosIn : ℕ → ℕ → List ℕ → Rhos
-rhosIn n m lent =
-    let place = n + n + n + m in
-    record { rho0 = bytesAt place lent; rho1 = bytesAt (place + 32) lent; rho2 = bytesAt (place + 64) lent }
+unfoldable pub vectorsFrom : List ℕ → ℕ → List ℕ → List ℕ → Lent → Vectors (List ℕ) (List ℕ)
+vectorsFrom b guess v lent l = simulated (mapOf b) guess (held v) (slotV (nOf b) 0 lent) (l .r0) (l .t0) (l .e0)
+
+unfoldable pub vectorsIn : List ℕ → ℕ → List ℕ → List ℕ → Vectors (List ℕ) (List ℕ)
+vectorsIn b guess v lent = vectorsFrom b guess v lent (lentBehind (nOf b) (mOf b) lent)
 
 -- "All else is formed as on the card."
 unfoldable pub simulatedCommitments : List ℕ → List ℕ → ℕ → List ℕ → List ℕ
-simulatedCommitments b v guess lent = threeCommitments (commitmentsThree (nOf b) (mOf b) (vectorsIn b guess v lent) (rhosIn (nOf b) (mOf b) lent))
+simulatedCommitments b v guess lent = threeCommitments (commitmentsThree (nOf b) (mOf b) (vectorsIn b guess v lent) (lentBehind (nOf b) (mOf b) lent .rhos))
 
 unfoldable pub simulatedReply : List ℕ → List ℕ → ℕ → ℕ → List ℕ → List ℕ
-simulatedReply b v guess challenge lent = replyThreeBytes (nOf b) (mOf b) (replyThree (vectorsIn b guess v lent) (rhosIn (nOf b) (mOf b) lent) challenge)
+simulatedReply b v guess challenge lent = replyThreeBytes (nOf b) (mOf b) (replyThree (vectorsIn b guess v lent) (lentBehind (nOf b) (mOf b) lent .rhos) challenge)

@@ -3,6 +3,8 @@
 // It takes any bytes and answers 0, or the number of the refusal, and then both outputs are what they were: the system's
 // own; 2 for a v, lent slice or output of another length; 3 for an element of v or of the lent vectors; 4 for a challenge
 // outside 0 to 2, or for the one that was guessed.
+use exchange::Lent;
+use exchange::read_lent;
 use exchange::write_commitments;
 use exchange::write_reply_three;
 use field::all_below;
@@ -10,13 +12,11 @@ use field::from_slice;
 use field::slot;
 use refusal::first;
 use refusal::unless;
-use round::Rhos;
 use round::Vectors;
 use round::commitments_three;
 use round::reply_three;
 use round::simulated;
 use slices::byte_at;
-use slices::bytes32;
 use slices::part;
 use system::check;
 ghost use mathlib.Core.Path.{_≡_};
@@ -24,7 +24,7 @@ ghost use lib.ListN.{length};
 ghost use Rattle.refusal.specs.Refusal.{kept};
 ghost use Rattle.system.specs.System.{systemRefusal};
 ghost use Rattle.round.specs.Pieces.{vectorsOf};
-ghost use Rattle.simulator.specs.Simulator.{simulateRefusal, vectorsIn, rhosIn, simulatedCommitments, simulatedReply};
+ghost use Rattle.simulator.specs.Simulator.{simulateRefusal, lentBehind, vectorsFrom, simulatedCommitments, simulatedReply};
 
 // The refusal of a call, its outputs' lengths among its arguments.
 fn simulate_refusal<'a>(
@@ -63,31 +63,23 @@ fn simulate_refusal<'a>(
     )
 }
 
-// The simulator's vectors, from what is lent.
-fn lent_vectors<'a>(system: &'a [u8], guess: u8, v: &'a [u8], lent: &'a [u8]) -> Vectors
-    requires { ⌜ systemRefusal (now system) ≡ 0 ⌝ }
-    ensures { λ r. ⌜ vectorsOf r ≡ vectorsIn (now (system .entry)) guess (now (v .entry)) (now (lent .entry)) ⌝ }
+// What is lent behind s', as to a card.
+fn lent_behind(lent: &[u8], n: u8, m: u8) -> Lent
+    ensures { λ r. ⌜ r ≡ lentBehind n m (now (lent .entry)) ⌝ }
 {
-    let n = byte_at(system, 1);
-    let m = byte_at(system, 2);
-    let after = n as usize;
-    let s = slot(lent, 0, n);
-    let r0 = slot(lent, after, n);
-    let t0 = slot(lent, after + after, n);
-    let e0 = slot(lent, after + after + after, m);
-    simulated(system, guess, from_slice(v), s, r0, t0, e0)
+    read_lent(part(lent, n as usize, lent.len()), n, m)
 }
 
-// ρ0, ρ1, ρ2, behind the lent vectors.
-fn lent_rhos(lent: &[u8], n: u8, m: u8) -> Rhos
-    ensures { λ r. ⌜ r ≡ rhosIn n m (now (lent .entry)) ⌝ }
+// The simulator's vectors, from s' and what is lent behind it.
+fn lent_vectors<'a>(system: &'a [u8], guess: u8, v: &'a [u8], lent: &'a [u8], l: Lent) -> Vectors
+    requires { ⌜ systemRefusal (now system) ≡ 0 ⌝ }
+    ensures { λ r. ⌜ vectorsOf r ≡ vectorsFrom (now (system .entry)) guess (now (v .entry)) (now (lent .entry)) l ⌝ }
 {
-    let at = n as usize + n as usize + n as usize + m as usize;
-    Rhos {
-        rho0: bytes32(lent, at),
-        rho1: bytes32(lent, at + 32),
-        rho2: bytes32(lent, at + 64),
-    }
+    let s = slot(lent, 0, byte_at(system, 1));
+    let r0 = l.r0;
+    let t0 = l.t0;
+    let e0 = l.e0;
+    simulated(system, guess, from_slice(v), s, r0, t0, e0)
 }
 
 // Writes the three commitments and the reply to `challenge`; `guess` is Ch*, the challenge to which there is no reply.
@@ -118,8 +110,9 @@ pub fn simulate<'a>(
     }
     let n = byte_at(system, 1);
     let m = byte_at(system, 2);
-    let w = lent_vectors(system, guess, v, lent);
-    let rhos = lent_rhos(lent, n, m);
+    let l = lent_behind(lent, n, m);
+    let rhos = l.rhos;
+    let w = lent_vectors(system, guess, v, lent, l);
     write_commitments(commitments_three(n, m, w, rhos), commitments);
     write_reply_three(reply_three(w, rhos, challenge), n, m, reply);
     0

@@ -18,6 +18,10 @@ length-part a s e h k = length-take-le (e - s) (drop s a) (simp length-drop (ome
 pub part-none : (l : List ℕ) (place k : ℕ) → length l ≤ place → take k (drop place l) ≡ []
 part-none l place k beyond = ap (take k) (drop-of-length-le l beyond) ∙ take-nil k
 
+-- a part as long as the whole has all that is left
+pub part-all : (l : List ℕ) (place : ℕ) → take (length l) (drop place l) ≡ drop place l
+part-all l place = take-all (length l) (drop place l) (rw (length-drop place l) (omega arith))
+
 pub part-rest : (l : List ℕ) (place k j : ℕ) → length l ≤ place + k → length l ≤ place + j → take k (drop place l) ≡ take j (drop place l)
 part-rest l place k j hk hj = take-all k (drop place l) (short k hk) ∙ sym (take-all j (drop place l) (short j hj))
   where

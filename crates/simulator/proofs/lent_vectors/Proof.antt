@@ -1,24 +1,16 @@
 -- The callees' answers, put together. Assumes nothing.
-use Rattle.simulator.specs.Simulator.{vectorsIn}
+use Rattle.simulator.specs.Simulator.{vectorsFrom}
 use borrow.Author.Needs.{needs}
 use Rattle.simulator.proofs.lent_vectors.Statement.{statement}
 use Rattle.simulator.proofs.lent_vectors.Tie as tie
 
 pub lent-vectors-spec : {M : Type 1} → statement M
-unfolding vectorsIn
+unfolding vectorsFrom
 lent-vectors-spec =
     tie.close
     (tie.spec
     (λ c κs. search needs)
     (λ c κs. search needs)
-    (λ c. search needs)
     (λ c κs. search needs)
     (λ c κs. search needs)
-    (λ c. search needs)
-    (λ c κs. search needs)
-    (λ c. search needs)
-    (λ c. search needs)
-    (λ c κs. search needs)
-    (λ c κs. search needs)
-    (λ c κs. search needs)
-    (λ c. simp (c .simulated .ensures, c .before .from-slice .ensures, c .before .before .slot4 .ensures, c .before .before .before .slot3 .ensures, c .before .before .before .before .slot2 .ensures, c .before .before .before .before .before .slot .ensures, c .before .before .before .before .before .before .byte-at2 .ensures, c .before .before .before .before .before .before .before .byte-at .ensures)))
+    (λ c. simp (c .simulated .ensures, c .before .from-slice .ensures, c .before .before .before .before .before .slot .ensures, c .before .before .before .before .before .before .byte-at .ensures)))

@@ -4,7 +4,7 @@ use lib.ListN.{length}
 use Rattle.refusal.specs.Refusal.{kept}
 use Rattle.refusal.proofs.Refusals.{kept-refused}
 use Rattle.system.proofs.SystemLayout.{accepted}
-use Rattle.simulator.specs.Simulator.{simulateRefusal, simulatedCommitments, simulatedReply}
+use Rattle.simulator.specs.Simulator.{simulateRefusal, vectorsIn, simulatedCommitments, simulatedReply}
 use Rattle.simulator.proofs.NotRefused.{taken}
 use borrow.Author.Needs.{needs}
 use Rattle.simulator.proofs.simulate.Statement.{statement}
@@ -17,7 +17,7 @@ none : (c : tie.Else1) →
 none c = sym (c .before .simulate-refusal .ensures) ∙ c .if1 .left
 
 pub simulate-spec : {M : Type 1} → statement M
-unfolding simulatedCommitments simulatedReply kept
+unfolding simulatedCommitments simulatedReply vectorsIn kept
 simulate-spec =
     tie.close
     (tie.spec
@@ -25,22 +25,21 @@ simulate-spec =
     (λ c. (c .before .simulate-refusal .ensures, sym (kept-refused _ _ _ (c .if1 .taken)), sym (kept-refused _ _ _ (c .if1 .taken))))
     (λ c κs. search needs)
     (λ c κs. search needs)
-    (λ c κs. taken _ _ _ _ _ _ _ (none (c .before .before)) .good)
     (λ c κs. search needs)
+    (λ c κs. taken _ _ _ _ _ _ _ (none (c .before .before .before .before)) .good)
     (λ c κs. search needs)
-    (λ c κs. taken _ _ _ _ _ _ _ (none (c .before .before .before .before .before .before)) .commitments-room)
+    (λ c κs. taken _ _ _ _ _ _ _ (none (c .before .before .before .before .before .before .before)) .commitments-room)
     (λ c κs. search needs)
     (λ c κs.
-    let good = accepted _ (taken _ _ _ _ _ _ _ (none (c .before .before .before .before .before .before .before .before .before .before .before)) .good) in (
-      rw (c .before .before .before .before .before .before .before .before .before .before .byte-at .ensures) (good .n-high),
-      rw (c .before .before .before .before .before .before .before .before .before .byte-at2 .ensures) (good .m-high),
-      simp (c .before .before .before .before .before .before .before .before .before .before .byte-at .ensures, c .before .before .before .before .before .before .before .before .before .byte-at2 .ensures) (taken _ _ _ _ _ _ _ (none (c .before .before .before .before .before .before .before .before .before .before .before)) .reply-room),
-    ))
+    let k = taken _ _ _ _ _ _ _ (none (c .before .before .before .before .before .before .before .before .before .before .before .before)) in
+    let good = accepted _ (k .good) in
+    let n = c .before .before .before .before .before .before .before .before .before .before .before .byte-at .ensures in
+    let m = c .before .before .before .before .before .before .before .before .before .before .byte-at2 .ensures in
+    (rw n (good .n-high), rw m (good .m-high), simp (n, m) (k .reply-room)))
     (λ c. search needs)
     (λ c. search needs)
-    (λ c.
-    let common = none (c .before .before .before .before .before .before .before .before .before .before .before .before .before .before) in (
-      sym common,
-      simp (c .before .before .before .before .before .before .before .write-commitments .ensures, c .before .before .before .before .before .before .before .before .before .commitments-three .ensures, c .before .before .before .before .before .before .before .before .before .before .lent-rhos .ensures, c .before .before .before .before .before .before .before .before .before .before .before .lent-vectors .ensures, c .before .before .before .before .before .before .before .before .before .before .before .before .byte-at2 .ensures, c .before .before .before .before .before .before .before .before .before .before .before .before .before .byte-at .ensures),
-      simp (c .before .before .write-reply-three .ensures, c .before .before .before .before .reply-three .ensures, c .before .before .before .before .before .before .before .before .before .before .lent-rhos .ensures, c .before .before .before .before .before .before .before .before .before .before .before .lent-vectors .ensures, c .before .before .before .before .before .before .before .before .before .before .before .before .byte-at2 .ensures, c .before .before .before .before .before .before .before .before .before .before .before .before .before .byte-at .ensures),
+    (λ c. (
+      sym (none (c .before .before .before .before .before .before .before .before .before .before .before .before .before .before .before)),
+      simp (c .before .before .before .before .before .before .before .write-commitments .ensures, c .before .before .before .before .before .before .before .before .before .commitments-three .ensures, c .before .before .before .before .before .before .before .before .before .before .lent-vectors .ensures, c .before .before .before .before .before .before .before .before .before .before .before .before .lent-behind .ensures, c .before .before .before .before .before .before .before .before .before .before .before .before .before .byte-at2 .ensures, c .before .before .before .before .before .before .before .before .before .before .before .before .before .before .byte-at .ensures),
+      simp (c .before .before .write-reply-three .ensures, c .before .before .before .before .reply-three .ensures, c .before .before .before .before .before .before .before .before .before .before .lent-vectors .ensures, c .before .before .before .before .before .before .before .before .before .before .before .before .lent-behind .ensures, c .before .before .before .before .before .before .before .before .before .before .before .before .before .byte-at2 .ensures, c .before .before .before .before .before .before .before .before .before .before .before .before .before .before .byte-at .ensures),
     )))
