@@ -3,7 +3,7 @@
 mod common;
 
 use canvasfox::{sha256, slices, DIGEST};
-use common::{any_bytes, below, number, output, Tally};
+use common::{any_bytes, assert_answers, below, output, Tally};
 use reference::entries;
 use reference::random::Generator;
 
@@ -14,16 +14,10 @@ fn compare(random: &mut Generator, tally: &mut Tally, message: &[u8]) {
     assert_eq!(slices::sha256(message, &mut out), answer);
     assert_eq!(out, expected, "a message of {} bytes", message.len());
     tally.note(answer);
-    let by_value = sha256(message);
-    if let Ok(digest) = by_value {
-        let mut right = [0; DIGEST];
-        assert_eq!(entries::digest(message, &mut right), 0);
-        assert_eq!(digest, right);
-    }
-    assert_eq!(
-        number(&by_value),
-        if message.len() > 65_535 { 2 } else { 0 }
-    );
+    let mut right = [0; DIGEST];
+    let answer = entries::digest(message, &mut right);
+    assert_eq!(answer, if message.len() > 65_535 { 2 } else { 0 });
+    assert_answers(sha256(message), answer, right);
 }
 
 /// Every length up to 400, 25 of each.

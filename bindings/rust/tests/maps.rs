@@ -3,9 +3,10 @@
 mod common;
 
 use canvasfox::{evaluate, polar, slices, system_check};
-use common::{damage, number, once_in, output, perhaps_damage, shape, Tally};
+use common::{assert_answers, damage, number, once_in, output, perhaps_damage, shape, Tally};
 use reference::entries;
 use reference::random::Generator;
+use reference::system::System;
 use reference::vectors::instance::Shape;
 
 /// A system, with two vectors of n elements, and a right output length.
@@ -32,6 +33,13 @@ fn case(random: &mut Generator, shape: Shape) -> Case {
     }
 }
 
+/// What the second implementation answers and writes where its output has the right length. The
+/// functions by value make that output themselves. A refused system is refused with any output.
+fn with_right_output(system: &[u8], call: impl FnOnce(&mut [u8]) -> u8) -> (u8, Vec<u8>) {
+    let mut out = vec![0; System::read(system).map_or(0, |system| system.m())];
+    (call(&mut out), out)
+}
+
 #[test]
 fn checks() {
     let mut random = Generator::from_seed(10);
@@ -53,7 +61,7 @@ fn checks() {
 #[test]
 fn values_of_f() {
     let mut random = Generator::from_seed(11);
-    let mut tally = Tally::default();
+    let [mut tally, mut by_value] = [(); 2].map(|()| Tally::default());
     for _ in 0..30_000 {
         let shape = shape(&mut random, 400);
         let Case { system, x, out, .. } = case(&mut random, shape);
@@ -63,17 +71,18 @@ fn values_of_f() {
         assert_eq!(slices::evaluate(&system, &x, &mut found), answer);
         assert_eq!(found, expected);
         tally.note(answer);
-        if answer == 0 {
-            assert_eq!(evaluate(&system, &x), Ok(expected));
-        }
+        let (answer, value) = with_right_output(&system, |out| entries::evaluate(&system, &x, out));
+        assert_answers(evaluate(&system, &x), answer, value);
+        by_value.note(answer);
     }
     tally.has("evaluate", &[0, 1, 2, 3], 150);
+    by_value.has("evaluate by value", &[0, 1, 2, 3], 150);
 }
 
 #[test]
 fn values_of_g() {
     let mut random = Generator::from_seed(12);
-    let mut tally = Tally::default();
+    let [mut tally, mut by_value] = [(); 2].map(|()| Tally::default());
     for _ in 0..30_000 {
         let shape = shape(&mut random, 400);
         let Case { system, x, y, out } = case(&mut random, shape);
@@ -83,11 +92,13 @@ fn values_of_g() {
         assert_eq!(slices::polar(&system, &x, &y, &mut found), answer);
         assert_eq!(found, expected);
         tally.note(answer);
-        if answer == 0 {
-            assert_eq!(polar(&system, &x, &y), Ok(expected));
-        }
+        let (answer, value) =
+            with_right_output(&system, |out| entries::polar(&system, &x, &y, out));
+        assert_answers(polar(&system, &x, &y), answer, value);
+        by_value.note(answer);
     }
     tally.has("polar", &[0, 1, 2, 3], 150);
+    by_value.has("polar by value", &[0, 1, 2, 3], 150);
 }
 
 /// The largest system, and one byte more and less.

@@ -3,9 +3,11 @@
 mod common;
 
 use canvasfox::{simulate, slices, Simulated, COMMITMENTS};
-use common::{any_bytes, once_in, output, perhaps_damage, shape, Tally};
+use common::{any_bytes, assert_answers, once_in, output, perhaps_damage, shape, Tally};
 use reference::entries::{self, Simulate};
 use reference::random::Generator;
+use reference::scheme::Scheme;
+use reference::system::System;
 
 /// A challenge, or one time in eight any byte.
 fn challenge(random: &mut Generator) -> u8 {
@@ -13,10 +15,18 @@ fn challenge(random: &mut Generator) -> u8 {
     random.byte_below(bound)
 }
 
+/// The length of the reply, which the function by value makes itself. A refused system is refused with
+/// any reply.
+fn reply_length(system: &[u8]) -> usize {
+    System::read(system).map_or(0, |system| {
+        Scheme::ThreePass.reply_length(system.dimensions())
+    })
+}
+
 #[test]
 fn simulated() {
     let mut random = Generator::from_seed(20);
-    let mut tally = Tally::default();
+    let [mut tally, mut by_value] = [(); 2].map(|()| Tally::default());
     for _ in 0..30_000 {
         let shape = shape(&mut random, 300);
         let mut system = shape.random_system(&mut random).expanded();
@@ -29,16 +39,19 @@ fn simulated() {
         let [predicted, challenge] = [0; 2].map(|_| challenge(&mut random));
         let outputs = [COMMITMENTS, 2 * shape.n() + shape.m() + 64];
         let [commitments, reply] = outputs.map(|right| output(&mut random, right));
+        let own = |commitments: &mut [u8], reply: &mut [u8]| {
+            entries::simulate(Simulate {
+                system: &system,
+                v: &v,
+                predicted,
+                challenge,
+                lent: &lent,
+                commitments,
+                reply,
+            })
+        };
         let (mut expected, mut expected_reply) = (commitments.clone(), reply.clone());
-        let answer = entries::simulate(Simulate {
-            system: &system,
-            v: &v,
-            predicted,
-            challenge,
-            lent: &lent,
-            commitments: &mut expected,
-            reply: &mut expected_reply,
-        });
+        let answer = own(&mut expected, &mut expected_reply);
         let (mut found, mut found_reply) = (commitments, reply);
         let found_answer = slices::simulate(
             &system,
@@ -53,14 +66,15 @@ fn simulated() {
         assert_eq!(found, expected);
         assert_eq!(found_reply, expected_reply);
         tally.note(answer);
-        if answer == 0 {
-            let right = Simulated {
-                commitments: expected.try_into().expect("96 bytes"),
-                reply: expected_reply,
-            };
-            let by_value = simulate(&system, &v, predicted, challenge, &lent);
-            assert_eq!(by_value, Ok(right));
-        }
+        let mut right = Simulated {
+            commitments: [0; COMMITMENTS],
+            reply: vec![0; reply_length(&system)],
+        };
+        let answer = own(&mut right.commitments, &mut right.reply);
+        let result = simulate(&system, &v, predicted, challenge, &lent);
+        assert_answers(result, answer, right);
+        by_value.note(answer);
     }
     tally.has("simulate", &[0, 1, 2, 3, 4], 150);
+    by_value.has("simulate by value", &[0, 1, 2, 3, 4], 150);
 }

@@ -9,6 +9,7 @@ use reference::scheme::{Scheme, SCHEMES};
 use reference::vectors::instance::Shape;
 use reference::vectors::session::{layout, places, Holds};
 use std::collections::BTreeMap;
+use std::fmt::Debug;
 
 /// A number below the bound.
 pub fn below(random: &mut Generator, bound: usize) -> usize {
@@ -118,4 +119,12 @@ pub fn number<T>(result: &Result<T, Refusal>) -> u8 {
     result
         .as_ref()
         .map_or_else(|refusal| refusal.number(), |_| 0)
+}
+
+/// An answer by value is this number, and this value where the number is 0.
+pub fn assert_answers<T: PartialEq + Debug>(result: Result<T, Refusal>, answer: u8, value: T) {
+    assert_eq!(number(&result), answer);
+    if answer == 0 {
+        assert_eq!(result, Ok(value));
+    }
 }
