@@ -191,3 +191,64 @@ fn number_at(bytes: &[u8], at: usize) -> usize {
     let word = bytes[at..at + 4].try_into().expect("four bytes");
     usize::try_from(u32::from_le_bytes(word)).expect("a length")
 }
+
+/// A finding's bytes, laid out by hand as canvasfox.h has them: no audit can be made to find a clash,
+/// since no two strings with one digest are known.
+#[cfg(test)]
+mod tests {
+    use super::{audited, AuditRefusal, Finding, Refusal, FINDING};
+
+    /// Zeros, but for these parts at their offsets.
+    fn laid(parts: &[(usize, &[u8])]) -> [u8; FINDING] {
+        let mut bytes = [0; FINDING];
+        for (at, part) in parts {
+            bytes[*at..at + part.len()].copy_from_slice(part);
+        }
+        bytes
+    }
+
+    /// So many bytes, none of them 0 and neighbours different.
+    fn string(first: u8, length: u16) -> Vec<u8> {
+        let ascending = (first..=255).chain(1..first).cycle();
+        ascending.take(length.into()).collect()
+    }
+
+    #[test]
+    fn secrets() {
+        let secret = string(3, 96);
+        let bytes = laid(&[(0, &[1]), (4, &secret)]);
+        let secret = secret.try_into().expect("96 bytes");
+        assert_eq!(audited(0, &bytes), Ok(Finding::Secret(secret)));
+    }
+
+    /// The longest strings, and shorter ones, whose lengths take one byte or two.
+    #[test]
+    fn clashes() {
+        for (k, one, other) in [(0, 322, 322), (1, 36, 322), (2, 258, 255)] {
+            let [first, second] = [string(7, one), string(200, other)];
+            let bytes = laid(&[
+                (0, &[2, k]),
+                (100, &u32::from(one).to_le_bytes()),
+                (104, &first),
+                (426, &u32::from(other).to_le_bytes()),
+                (430, &second),
+            ]);
+            let clash = Finding::Clash { k, first, second };
+            assert_eq!(audited(0, &bytes), Ok(clash));
+        }
+    }
+
+    /// A refusal is in the answer alone, whatever the bytes are.
+    #[test]
+    fn refusals() {
+        let answer = 8 + 256 * 3 + 65_536 * 255;
+        let refused = AuditRefusal {
+            refusal: Refusal::Rejected,
+            record: 3,
+            round: 255,
+        };
+        for bytes in [[0; FINDING], [1; FINDING], [255; FINDING]] {
+            assert_eq!(audited(answer, &bytes), Err(refused));
+        }
+    }
+}
