@@ -1,4 +1,4 @@
-//! A second implementation of the engine, written from document 01 and FIPS 180-4 alone.
+//! A second implementation of the engine, written from documents 000 and 01 and FIPS 180-4 alone.
 //!
 //! It is plain on purpose: sums are nested loops, G is computed from its definition, and nothing is
 //! tuned. A module renders one part of document 01 and names its section. `entries` is the engine

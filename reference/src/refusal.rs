@@ -1,6 +1,6 @@
 //! Document 01, "Refused because of the input" and "of the state": the refusals by their numbers.
 
-/// Why a call is refused. Later parts add their own.
+/// Why a call is refused.
 #[derive(Clone, Copy, Debug, PartialEq, Eq)]
 pub enum Refusal {
     /// 1: q, n, m, N or the scheme is outside its values.

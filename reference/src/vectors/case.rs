@@ -13,12 +13,10 @@ use std::iter::repeat;
 /// unwritten is seen.
 pub const FILL: u8 = 255;
 
-/// The most bytes that the programs' buffers take: a message, a system, a record or a body of it,
-/// the report's input and text, any other piece but a finding.
-const MOST_OF_MESSAGE: usize = 66_000;
+/// The most bytes that the programs' buffers take: a system; a record or a body of it, a message or
+/// the report's input; the report's text; any other piece but a finding.
 const MOST_OF_SYSTEM: usize = 500_000;
 const MOST_OF_RECORD: usize = 131_072;
-const MOST_OF_INPUT: usize = 66_000;
 const MOST_OF_TEXT: usize = 8_192;
 const MOST_OF_OTHERS: usize = 512;
 
@@ -160,14 +158,13 @@ impl Call {
     /// The most bytes of the first pieces; `MOST_OF_OTHERS` of any further one.
     fn room(&self) -> Vec<usize> {
         match self {
-            Call::Digest { .. } => vec![MOST_OF_MESSAGE],
-            Call::Read { .. } => vec![MOST_OF_RECORD],
+            Call::Digest { .. } | Call::Read { .. } => vec![MOST_OF_RECORD],
             Call::Write(_) => {
                 let mut room = vec![MOST_OF_OTHERS; 2];
                 room.extend([MOST_OF_RECORD; 3]);
                 room
             }
-            Call::Report { .. } => vec![MOST_OF_INPUT, MOST_OF_TEXT],
+            Call::Report { .. } => vec![MOST_OF_RECORD, MOST_OF_TEXT],
             Call::Audit(audit) => {
                 let mut room = vec![MOST_OF_SYSTEM];
                 room.extend(vec![MOST_OF_RECORD; audit.records.len()]);
