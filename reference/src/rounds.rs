@@ -37,6 +37,27 @@ pub struct Transcript {
     pub reply: Vec<u8>,
 }
 
+/// The honest round of that challenge, and in five passes that α.
+pub fn honest(
+    system: &System,
+    scheme: Scheme,
+    s: &[u8],
+    lent: &[u8],
+    alpha: u8,
+    challenge: u8,
+) -> Transcript {
+    let middle = match scheme {
+        Scheme::ThreePass => Vec::new(),
+        Scheme::FivePass => five_pass::Middle::new(system, alpha, lent).bytes(),
+    };
+    Transcript {
+        commitments: commit(system, scheme, s, lent),
+        middle,
+        challenge,
+        reply: reply(system, scheme, s, lent, challenge),
+    }
+}
+
 /// Is the round accepted?
 pub fn accepts(system: &System, scheme: Scheme, v: &[u8], round: &Transcript) -> bool {
     let Transcript {

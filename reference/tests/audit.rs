@@ -14,7 +14,9 @@ use reference::vector::{difference, sum};
 use reference::vectors::audited::{Audit, Cards, Question};
 use reference::vectors::exchange::Card;
 use reference::vectors::instance::Shape;
+use reference::vectors::maps::SMALL;
 use reference::vectors::piece::Piece;
+use reference::vectors::reporting::spoil_rho;
 use reference::vectors::session::Session;
 
 fn refused(number: u8) -> Finding {
@@ -77,8 +79,7 @@ fn secrets() {
 /// The small key's records, written out by hand: 0, 1, 2 give s, and three copies give 9.
 #[test]
 fn small_key() {
-    let system = [7, 2, 2, 1, 2, 3, 1, 0, 0, 1, 5, 0, 4];
-    let read = System::read(&system).expect("a well-formed system");
+    let read = System::read(&SMALL).expect("a well-formed system");
     let lent = [[5, 1], [4, 2], [2, 5]].concat();
     let lent = [lent, vec![9; 32], vec![8; 32], vec![7; 32]].concat();
     let round = three_pass::Round::new(&read, &[3, 5], &lent);
@@ -97,10 +98,10 @@ fn small_key() {
     };
     let [a, b, c] = [0, 1, 2].map(record);
     let secret = Finding::Secret(vec![3, 5]);
-    assert_eq!(audit_three(&system, &a, &b, &c), secret);
-    assert_eq!(audit_three(&system, &c, &a, &b), secret);
+    assert_eq!(audit_three(&SMALL, &a, &b, &c), secret);
+    assert_eq!(audit_three(&SMALL, &c, &a, &b), secret);
     for copy in [&a, &b, &c] {
-        assert_eq!(audit_three(&system, copy, copy, copy), refused(9));
+        assert_eq!(audit_three(&SMALL, copy, copy, copy), refused(9));
     }
 }
 
@@ -111,7 +112,7 @@ fn most_rounds() {
         let (cards, mut sessions) = sessions(401, scheme, Shape::new(251, 2, 1), 255, &[254]);
         assert_eq!(finding(&sessions), Finding::Secret(cards.0[0].s.clone()));
         let last = sessions.len() - 1;
-        spoil(&mut sessions[last].rounds[254]);
+        spoil_rho(&mut sessions[last].rounds[254]);
         assert_eq!(finding(&sessions), rejected(last, 254));
     }
 }
@@ -176,11 +177,6 @@ fn alphas() {
     }
 }
 
-/// A bit of ρ.
-fn spoil(round: &mut Transcript) {
-    *round.reply.last_mut().expect("a reply") ^= 1;
-}
-
 /// Each round of each record; of two the earlier record's counts, then its earlier round.
 #[test]
 fn rejected_rounds() {
@@ -191,9 +187,9 @@ fn rejected_rounds() {
         for &one in &places {
             for &other in &places {
                 let mut spoiled = sessions.clone();
-                spoil(&mut spoiled[one.0].rounds[one.1]);
+                spoil_rho(&mut spoiled[one.0].rounds[one.1]);
                 if one != other {
-                    spoil(&mut spoiled[other.0].rounds[other.1]);
+                    spoil_rho(&mut spoiled[other.0].rounds[other.1]);
                 }
                 let (record, round) = one.min(other);
                 assert_eq!(finding(&spoiled), rejected(record, round));
@@ -356,7 +352,7 @@ fn clashes_of_three() {
             }
         };
         let mut exchanges = honest.clone();
-        exchanges.iter_mut().for_each(spoil);
+        exchanges.iter_mut().for_each(spoil_rho);
         assert_finds(&exchanges, &Finding::Secret(card.s.clone()));
         // To challenge 0 another r0, t1 and e1, so that c1 keeps its string.
         let other_r0 = add(r0, &change);
@@ -412,7 +408,7 @@ fn clashes_of_five() {
             set.finding(&system)
         };
         let mut exchanges = honest.clone();
-        exchanges.iter_mut().for_each(spoil);
+        exchanges.iter_mut().for_each(spoil_rho);
         assert_eq!(found(&exchanges), Finding::Secret(card.s.clone()));
         // With α = 0 another r1 has another string of -G(t1,r1) - e1, which is G(t0,r1) + e0.
         let other_r1 = sum(system.field, r1, &change);

@@ -2,6 +2,7 @@
 
 use reference::sha256::{sha256, INITIAL, K};
 use reference::vectors::hash::PUBLISHED;
+use reference::vectors::samples::hex;
 
 /// The published digests of `PUBLISHED`, in its order.
 const DIGESTS: [&str; 4] = [
@@ -10,10 +11,6 @@ const DIGESTS: [&str; 4] = [
     "248d6a61d20638b8e5c026930c3e6039a33ce45964ff2167f6ecedd419db06c1",
     "cf5b16a778af8380036ce59e7b0492370b249b11e8f07a51afac45037afee9d1",
 ];
-
-fn hex(bytes: &[u8]) -> String {
-    bytes.iter().map(|byte| format!("{byte:02x}")).collect()
-}
 
 #[test]
 fn published_examples() {

@@ -5,15 +5,16 @@ mod shapes;
 use reference::field::{Field, ORDERS};
 use reference::map::{evaluate, polar};
 use reference::random::Generator;
-use reference::system::{length, System, HEAD};
+use reference::system::System;
 use reference::vector;
+use reference::vectors::instance::Shape;
 use shapes::SHAPES;
 
 fn fields() -> impl Iterator<Item = Field> {
     ORDERS.into_iter().filter_map(Field::of_order)
 }
 
-/// A random system with two random vectors and a scalar.
+/// A random system with three random vectors and a scalar.
 struct Sample {
     system: System,
     x: Vec<u8>,
@@ -36,9 +37,7 @@ fn samples(seed: u64) -> Vec<Sample> {
 }
 
 fn sample(random: &mut Generator, q: u8, n: u8, m: u8) -> Sample {
-    let coefficients = length(n.into(), m.into()) - HEAD;
-    let mut bytes = vec![q, n, m];
-    bytes.extend(random.bytes_below(q.into(), coefficients));
+    let bytes = Shape::new(q, n, m).random_bytes(random);
     Sample {
         system: System::read(&bytes).expect("a well-formed system"),
         x: random.bytes_below(q.into(), n.into()),

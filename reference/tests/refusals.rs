@@ -1,8 +1,7 @@
 //! Document 01, the refusals' numbers and their order; a refused call leaves its output unchanged.
 
 use reference::entries::{check, digest, evaluate, polar, simulate, Simulate};
-
-const SYSTEM: [u8; 13] = [7, 2, 2, 1, 2, 3, 1, 0, 0, 1, 5, 0, 4];
+use reference::vectors::maps::SMALL;
 
 /// The number of an evaluation, whose output is to stay as it was.
 fn refused_evaluate(system: &[u8], x: &[u8], out: usize) -> u8 {
@@ -14,7 +13,7 @@ fn refused_evaluate(system: &[u8], x: &[u8], out: usize) -> u8 {
 
 fn refused_polar(x: &[u8], y: &[u8], out: usize) -> u8 {
     let mut out = vec![255; out];
-    let number = polar(&SYSTEM, x, y, &mut out);
+    let number = polar(&SMALL, x, y, &mut out);
     assert!(out.iter().all(|&byte| byte == 255));
     number
 }
@@ -26,11 +25,11 @@ fn system_in_order() {
         [[4, 2, 2], [7, 0, 2], [7, 2, 97]].map(|s| check(&s)),
         [1; 3]
     );
-    assert_eq!(check(&SYSTEM[..3]), 2);
-    assert_eq!(check(&SYSTEM[..12]), 2);
-    assert_eq!(check(&[&SYSTEM[..], &[0]].concat()), 2);
-    for place in 3..SYSTEM.len() {
-        let mut system = SYSTEM;
+    assert_eq!(check(&SMALL[..3]), 2);
+    assert_eq!(check(&SMALL[..12]), 2);
+    assert_eq!(check(&[&SMALL[..], &[0]].concat()), 2);
+    for place in 3..SMALL.len() {
+        let mut system = SMALL;
         system[place] = 7;
         assert_eq!(check(&system), 3);
         assert_eq!(check(&system[..12]), 2);
@@ -44,10 +43,10 @@ fn evaluate_in_order() {
     assert_eq!(refused_evaluate(&[4, 2], &[7], 9), 2);
     assert_eq!(refused_evaluate(&[4, 2, 2], &[7], 9), 1);
     assert_eq!(refused_evaluate(&[7, 1, 1, 7, 0], &[7, 7], 9), 3);
-    assert_eq!(refused_evaluate(&SYSTEM, &[7], 2), 2);
-    assert_eq!(refused_evaluate(&SYSTEM, &[7, 0], 1), 2);
-    assert_eq!(refused_evaluate(&SYSTEM, &[7, 0], 2), 3);
-    assert_eq!(refused_evaluate(&SYSTEM, &[0, 255], 2), 3);
+    assert_eq!(refused_evaluate(&SMALL, &[7], 2), 2);
+    assert_eq!(refused_evaluate(&SMALL, &[7, 0], 1), 2);
+    assert_eq!(refused_evaluate(&SMALL, &[7, 0], 2), 3);
+    assert_eq!(refused_evaluate(&SMALL, &[0, 255], 2), 3);
 }
 
 #[test]
@@ -87,7 +86,7 @@ impl Simulation {
     /// One of the small system that is not refused.
     fn good() -> Simulation {
         Simulation {
-            system: SYSTEM.to_vec(),
+            system: SMALL.to_vec(),
             v: vec![5, 6],
             predicted: 0,
             challenge: 1,

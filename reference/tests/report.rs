@@ -8,19 +8,18 @@ use reference::scheme::SCHEMES;
 use reference::system::System;
 use reference::three_pass::Round;
 use reference::vectors::instance::Shape;
+use reference::vectors::maps::SMALL;
 use reference::vectors::session::Session;
-
-const SYSTEM: [u8; 13] = [7, 2, 2, 1, 2, 3, 1, 0, 0, 1, 5, 0, 4];
 
 /// The worked key's input of one honest round, written out by hand.
 fn worked(challenge: u8) -> Vec<u8> {
-    let system = System::read(&SYSTEM).expect("a well-formed system");
+    let system = System::read(&SMALL).expect("a well-formed system");
     let lent = [[5, 1], [4, 2], [2, 5]].concat();
     let lent = [lent, vec![9; 32], vec![8; 32], vec![7; 32]].concat();
     let round = Round::new(&system, &[3, 5], &lent);
     let table = [30u32, 2, 32, 96, 128, 71].map(u32::to_le_bytes);
     [
-        &SYSTEM[..],
+        &SMALL[..],
         &[1, 3, 7, 2, 2, 1],
         &table.concat(),
         &[5, 6],
@@ -134,9 +133,9 @@ fn another_system() {
 #[test]
 fn lengths() {
     for length in 0..3 {
-        assert_eq!(report(&SYSTEM[..length]), "refused 2\n");
+        assert_eq!(report(&SMALL[..length]), "refused 2\n");
     }
-    assert_eq!(report(&SYSTEM), "refused 6\n");
+    assert_eq!(report(&SMALL), "refused 6\n");
     assert_eq!(report(&[0; 65_537]), "refused 2\n");
     assert_eq!(report(&[0; 65_536]), "refused 1\n");
     let mut random = Generator::from_seed(302);

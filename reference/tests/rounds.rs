@@ -8,13 +8,15 @@ use reference::field::ORDERS;
 use reference::five_pass::{self, Middle};
 use reference::map::{evaluate, polar};
 use reference::random::Generator;
-use reference::rounds::{accepts, commit, reply, Transcript};
+use reference::rounds::{accepts, honest, Transcript};
 use reference::scheme::{Scheme, SCHEMES};
 use reference::sha256::DIGEST;
 use reference::simulator::{self, Simulation};
-use reference::system::{length, System, HEAD};
+use reference::system::System;
 use reference::three_pass;
-use reference::vector::{all_elements, difference, sum};
+use reference::vector::{all_elements, sum};
+use reference::vectors::forged::other_second_vectors;
+use reference::vectors::instance::Shape;
 use shapes::SHAPES;
 
 /// A key and what is lent to its card for one round.
@@ -28,9 +30,7 @@ struct Card {
 
 impl Card {
     fn random(random: &mut Generator, scheme: Scheme, q: u8, n: u8, m: u8) -> Card {
-        let coefficients = length(n.into(), m.into()) - HEAD;
-        let mut bytes = vec![q, n, m];
-        bytes.extend(random.bytes_below(q.into(), coefficients));
+        let bytes = Shape::new(q, n, m).random_bytes(random);
         let system = System::read(&bytes).expect("a well-formed system");
         let s = random.bytes_below(q.into(), n.into());
         let v = evaluate(&system, &s);
@@ -57,16 +57,7 @@ impl Card {
             lent,
             ..
         } = self;
-        let middle = match scheme {
-            Scheme::ThreePass => Vec::new(),
-            Scheme::FivePass => Middle::new(system, alpha, lent).bytes(),
-        };
-        Transcript {
-            commitments: commit(system, *scheme, s, lent),
-            middle,
-            challenge,
-            reply: reply(system, *scheme, s, lent, challenge),
-        }
+        honest(system, *scheme, s, lent, alpha, challenge)
     }
 
     fn accepts(&self, round: &Transcript) -> bool {
@@ -357,7 +348,8 @@ fn one_opening_fails() {
             let round = card.transcript(0, challenge);
             let first = changed(&round.reply, 0, Some(card.q()));
             assert_eq!(opens(&card, &round, &first), [false, true]);
-            let second = second_fails(&card, challenge, &round.reply);
+            let place = card.system.n - 1;
+            let second = other_second_vectors(&card.system, challenge, &round.reply, place);
             assert_eq!(opens(&card, &round, &second), [true, false]);
             for reply in [first, second] {
                 assert!(all_elements(
@@ -377,24 +369,4 @@ fn one_opening_fails() {
 fn opens(card: &Card, round: &Transcript, reply: &[u8]) -> [bool; 2] {
     let opened = three_pass::opened(&card.system, &card.v, round.challenge, reply);
     opened.map(|opening| opening.opens(&round.commitments))
-}
-
-/// Another t, and an e (in challenge 0 an r too) that keep the first opening's string.
-fn second_fails(card: &Card, challenge: u8, reply: &[u8]) -> Vec<u8> {
-    let system = &card.system;
-    let field = system.field;
-    let (n, m) = (system.n, system.m());
-    let mut delta = vec![0; n];
-    delta[n - 1] = 1;
-    let (r, t) = (&reply[..n], &reply[n..2 * n]);
-    let e = &reply[2 * n..2 * n + m];
-    let changed_t = sum(field, t, &delta);
-    let (changed_r, changed_e) = if challenge == 0 {
-        let changed_r = sum(field, r, &delta);
-        let shift = difference(field, &evaluate(system, &changed_r), &evaluate(system, r));
-        (changed_r, sum(field, e, &shift))
-    } else {
-        (r.to_vec(), difference(field, e, &polar(system, &delta, r)))
-    };
-    [&changed_r, &changed_t, &changed_e, &reply[2 * n + m..]].concat()
 }

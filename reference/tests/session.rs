@@ -7,7 +7,9 @@ use reference::scheme::{Scheme, SCHEMES};
 use reference::session::card::{self, Card};
 use reference::session::carrier::{self, Carrier};
 use reference::session::Verdict;
-use reference::system::{length, System};
+use reference::system::System;
+use reference::vectors::instance::Shape;
+use reference::vectors::maps::SMALL;
 
 /// A key, and numbers to play its sessions with.
 struct Key {
@@ -29,9 +31,7 @@ struct Round {
 impl Key {
     fn new(scheme: Scheme, [q, n, m]: [u8; 3], seed: u64) -> Key {
         let mut random = Generator::from_seed(seed);
-        let count = length(n.into(), m.into()) - 3;
-        let coefficients = random.bytes_below(q.into(), count);
-        let bytes = [vec![q, n, m], coefficients].concat();
+        let bytes = Shape::new(q, n, m).random_bytes(&mut random);
         let system = System::read(&bytes).expect("well-formed");
         let s = random.bytes_below(q.into(), n.into());
         let v = evaluate(&system, &s);
@@ -228,8 +228,7 @@ fn state_comes_first() {
     }
 }
 
-/// The small key: q = 7, n = m = 2, s = (3,5), F(s) = (5,6).
-const SYSTEM: [u8; 13] = [7, 2, 2, 1, 2, 3, 1, 0, 0, 1, 5, 0, 4];
+// Refusals in order, by the small key: q = 7, n = m = 2, s = (3,5), F(s) = (5,6).
 
 #[test]
 fn openings_in_order() {
@@ -242,65 +241,65 @@ fn openings_in_order() {
         [of_card, of_carrier]
     };
     for scheme in [3, 5] {
-        assert_eq!(both(&SYSTEM[..2], 4, 0, &[], &[]), [2, 2]);
+        assert_eq!(both(&SMALL[..2], 4, 0, &[], &[]), [2, 2]);
         assert_eq!(both(&[4, 2, 2], 4, 0, &[], &[]), [1, 1]);
-        assert_eq!(both(&SYSTEM[..12], 4, 0, &[], &[]), [2, 2]);
+        assert_eq!(both(&SMALL[..12], 4, 0, &[], &[]), [2, 2]);
         assert_eq!(both(&[7, 1, 1, 7, 0], 4, 0, &[], &[]), [3, 3]);
-        assert_eq!(both(&SYSTEM, 4, 1, &[7], &[7]), [1, 1]);
-        assert_eq!(both(&SYSTEM, scheme, 0, &[7], &[7]), [1, 1]);
-        assert_eq!(both(&SYSTEM, scheme, 1, &[7], &[7, 7]), [2, 2]);
-        assert_eq!(both(&SYSTEM, scheme, 1, &[7, 0], &[7]), [2, 3]);
-        assert_eq!(both(&SYSTEM, scheme, 1, &[7, 0], &[0, 0]), [3, 3]);
-        assert_eq!(both(&SYSTEM, scheme, 1, &[5, 6], &[3, 7]), [3, 0]);
-        assert_eq!(both(&SYSTEM, scheme, 1, &[5, 6], &[3, 4]), [5, 0]);
-        assert_eq!(both(&SYSTEM, scheme, 255, &[5, 6], &[3, 5]), [0, 0]);
+        assert_eq!(both(&SMALL, 4, 1, &[7], &[7]), [1, 1]);
+        assert_eq!(both(&SMALL, scheme, 0, &[7], &[7]), [1, 1]);
+        assert_eq!(both(&SMALL, scheme, 1, &[7], &[7, 7]), [2, 2]);
+        assert_eq!(both(&SMALL, scheme, 1, &[7, 0], &[7]), [2, 3]);
+        assert_eq!(both(&SMALL, scheme, 1, &[7, 0], &[0, 0]), [3, 3]);
+        assert_eq!(both(&SMALL, scheme, 1, &[5, 6], &[3, 7]), [3, 0]);
+        assert_eq!(both(&SMALL, scheme, 1, &[5, 6], &[3, 4]), [5, 0]);
+        assert_eq!(both(&SMALL, scheme, 255, &[5, 6], &[3, 5]), [0, 0]);
     }
 }
 
 #[test]
 fn commit_in_order() {
     let commit = |scheme, system: &[u8], lent: &[u8], out| {
-        let card = Card::open(&SYSTEM, scheme, 1, &[5, 6], &[3, 5]).0;
+        let card = Card::open(&SMALL, scheme, 1, &[5, 6], &[3, 5]).0;
         card_numbers(&card, system, lent, 0, out)[0]
     };
     let other = [7, 2, 1, 1, 1, 1, 1, 1];
     for (scheme, lent, out) in [(3, 102, 96), (5, 70, 64)] {
         let bad = vec![7; lent];
-        assert_eq!(commit(scheme, &SYSTEM[..2], &bad, 0), 2);
+        assert_eq!(commit(scheme, &SMALL[..2], &bad, 0), 2);
         assert_eq!(commit(scheme, &[5, 2, 2], &bad, 0), 1);
         assert_eq!(commit(scheme, &[7, 1, 1, 7, 0], &bad, 0), 3);
         assert_eq!(commit(scheme, &other, &bad, 0), 7);
         assert_eq!(commit(scheme, &[31, 1, 1, 30, 0], &bad, 0), 7);
-        assert_eq!(commit(scheme, &SYSTEM, &bad[1..], out), 2);
-        assert_eq!(commit(scheme, &SYSTEM, &bad, out - 1), 2);
-        assert_eq!(commit(scheme, &SYSTEM, &bad, out + 1), 2);
-        assert_eq!(commit(scheme, &SYSTEM, &bad, out), 3);
+        assert_eq!(commit(scheme, &SMALL, &bad[1..], out), 2);
+        assert_eq!(commit(scheme, &SMALL, &bad, out - 1), 2);
+        assert_eq!(commit(scheme, &SMALL, &bad, out + 1), 2);
+        assert_eq!(commit(scheme, &SMALL, &bad, out), 3);
         let mut lent = vec![200; lent];
         lent[..6].copy_from_slice(&[0, 1, 2, 3, 4, 6]);
-        assert_eq!(commit(scheme, &SYSTEM, &lent, out), 0);
+        assert_eq!(commit(scheme, &SMALL, &lent, out), 0);
         lent[5] = 7;
-        assert_eq!(commit(scheme, &SYSTEM, &lent, out), 3);
+        assert_eq!(commit(scheme, &SMALL, &lent, out), 3);
     }
 }
 
 #[test]
 fn later_calls_in_order() {
     let (card, carrier) = (
-        Card::open(&SYSTEM, 5, 1, &[5, 6], &[3, 5]).0,
-        Carrier::open(&SYSTEM, 5, 1, &[5, 6]).0,
+        Card::open(&SMALL, 5, 1, &[5, 6], &[3, 5]).0,
+        Carrier::open(&SMALL, 5, 1, &[5, 6]).0,
     );
     let (mut commitments, mut middle) = ([0; 64], [0; 4]);
-    let card = card.commit(&SYSTEM, &[1; 70], &mut commitments).0;
+    let card = card.commit(&SMALL, &[1; 70], &mut commitments).0;
     assert_eq!(
         card_numbers(&card, &[7, 1, 1, 0, 0], &[], 7, 3),
         [10, 7, 10]
     );
-    assert_eq!(card_numbers(&card, &SYSTEM, &[], 7, 3), [10, 2, 10]);
-    assert_eq!(card_numbers(&card, &SYSTEM, &[], 7, 4), [10, 3, 10]);
-    let card = card.answer(&SYSTEM, 6, &mut middle).0;
-    assert_eq!(card_numbers(&card, &SYSTEM, &[], 2, 33), [10, 10, 2]);
-    assert_eq!(card_numbers(&card, &SYSTEM, &[], 2, 34), [10, 10, 4]);
-    assert_eq!(card_numbers(&card, &SYSTEM, &[], 1, 34), [10, 10, 0]);
+    assert_eq!(card_numbers(&card, &SMALL, &[], 7, 3), [10, 2, 10]);
+    assert_eq!(card_numbers(&card, &SMALL, &[], 7, 4), [10, 3, 10]);
+    let card = card.answer(&SMALL, 6, &mut middle).0;
+    assert_eq!(card_numbers(&card, &SMALL, &[], 2, 33), [10, 10, 2]);
+    assert_eq!(card_numbers(&card, &SMALL, &[], 2, 34), [10, 10, 4]);
+    assert_eq!(card_numbers(&card, &SMALL, &[], 1, 34), [10, 10, 0]);
     assert_eq!(carrier_numbers(&carrier, &[], &[0; 96], 0)[0], 2);
     let carrier = taken(carrier.take_commitments(&commitments));
     assert_eq!(carrier_numbers(&carrier, &[], &[], 7), [10, 3, 10, 10, 10]);
@@ -311,11 +310,11 @@ fn later_calls_in_order() {
     assert_eq!(carrier_numbers(&carrier, &[], &[], 2), [10, 10, 10, 4, 10]);
     let carrier = taken(carrier.set_challenge(1));
     let reply = |system: &[u8], reply: &[u8]| carrier_numbers(&carrier, system, reply, 0)[4];
-    assert_eq!(reply(&SYSTEM[..12], &[]), 2);
+    assert_eq!(reply(&SMALL[..12], &[]), 2);
     assert_eq!(reply(&[7, 2, 1, 1, 1, 1, 1, 1], &[]), 7);
-    assert_eq!(reply(&SYSTEM, &[7; 33]), 2);
-    assert_eq!(reply(&SYSTEM, &[7; 34]), 3);
-    assert_eq!(reply(&SYSTEM, &[6; 34]), 0);
+    assert_eq!(reply(&SMALL, &[7; 33]), 2);
+    assert_eq!(reply(&SMALL, &[7; 34]), 3);
+    assert_eq!(reply(&SMALL, &[6; 34]), 0);
 }
 
 #[test]

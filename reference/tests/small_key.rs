@@ -6,8 +6,8 @@ use reference::five_pass::{self, Middle};
 use reference::simulator::Simulation;
 use reference::system::System;
 use reference::three_pass::{self, Round};
+use reference::vectors::maps::SMALL;
 
-const SYSTEM: [u8; 13] = [7, 2, 2, 1, 2, 3, 1, 0, 0, 1, 5, 0, 4];
 const S: [u8; 2] = [3, 5];
 const R0: [u8; 2] = [5, 1];
 const R1: [u8; 2] = [5, 4];
@@ -37,15 +37,15 @@ fn zeros(q: u8, n: u8, m: u8) -> Vec<u8> {
 
 #[test]
 fn k1_to_k4() {
-    assert_eq!(check(&SYSTEM), 0);
-    assert_eq!(f(&SYSTEM, &S), [5, 6]);
-    assert_eq!(f(&SYSTEM, &R0), [1, 0]);
-    assert_eq!(f(&SYSTEM, &R1), [6, 4]);
-    assert_eq!(g(&SYSTEM, &R0, &R1), [5, 2]);
+    assert_eq!(check(&SMALL), 0);
+    assert_eq!(f(&SMALL, &S), [5, 6]);
+    assert_eq!(f(&SMALL, &R0), [1, 0]);
+    assert_eq!(f(&SMALL, &R1), [6, 4]);
+    assert_eq!(g(&SMALL, &R0, &R1), [5, 2]);
 }
 
 fn system() -> System {
-    System::read(&SYSTEM).expect("a well-formed system")
+    System::read(&SMALL).expect("a well-formed system")
 }
 
 /// r0, t0, e0 and as many ρ, each of equal bytes.
@@ -94,7 +94,7 @@ fn k9() {
 
 #[test]
 fn k10_to_k12() {
-    assert_eq!(f(&SYSTEM, &[0, 0]), [0, 0]);
+    assert_eq!(f(&SMALL, &[0, 0]), [0, 0]);
     assert_eq!(g(&[2, 1, 1, 1, 0], &[1], &[1]), [0]);
     assert_eq!(f(&[251, 1, 1, 1, 0], &[250]), [1]);
 }

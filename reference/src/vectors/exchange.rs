@@ -85,21 +85,14 @@ impl Card {
 
     /// The honest round of that challenge, and in five passes that α.
     pub fn judged(&self, alpha: u8, challenge: u8) -> Judgement {
-        let system = read(&self.system);
-        let middle = match self.scheme {
-            Scheme::ThreePass => Vec::new(),
-            Scheme::FivePass => Middle::new(&system, alpha, &self.lent).bytes(),
-        };
+        let Card {
+            scheme, s, lent, ..
+        } = self;
         Judgement {
-            scheme: self.scheme,
+            scheme: *scheme,
             system: self.system.clone(),
             v: self.v(),
-            round: Transcript {
-                commitments: self.commitments(),
-                middle,
-                challenge,
-                reply: self.reply(challenge),
-            },
+            round: rounds::honest(&read(&self.system), *scheme, s, lent, alpha, challenge),
         }
     }
 }

@@ -36,10 +36,7 @@ fn changed<'a>(right: &SessionCall, faults: impl Iterator<Item = &'a Fault>) -> 
 /// element or the challenge.
 fn stages(scheme: Scheme, call: &SessionCall, shape: Shape) -> Vec<Vec<Fault>> {
     let (n, m, q) = (shape.n(), shape.m(), shape.q);
-    let replied = match scheme {
-        Scheme::ThreePass => 2 * n + m,
-        Scheme::FivePass => n,
-    };
+    let replied = scheme.reply_elements(shape.dimensions());
     let alphas = || bytes([q, 255]);
     let challenges = || bytes([scheme.commitments(), 255]);
     match call {

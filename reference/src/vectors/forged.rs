@@ -10,6 +10,7 @@ use crate::field::ORDERS;
 use crate::map::{evaluate, polar};
 use crate::random::Generator;
 use crate::scheme::{Scheme, SCHEMES};
+use crate::system::System;
 use crate::three_pass::Round;
 use crate::vector::{difference, sum};
 
@@ -189,9 +190,11 @@ fn one_fails(random: &mut Generator, card: &Card, challenge: u8, which: usize) -
             judgements.push(honest.changed(v, v.start));
         }
     } else {
-        let n = read(&card.system).n;
-        judgements.push(other_second_vectors(&honest, 0));
-        judgements.push(other_second_vectors(&honest, n - 1));
+        let system = read(&card.system);
+        for place in [0, system.n - 1] {
+            let reply = other_second_vectors(&system, challenge, &honest.round.reply, place);
+            judgements.push(honest.with_round(|round| round.reply = reply));
+        }
     }
     judgements
 }
@@ -211,24 +214,22 @@ fn another_opening(random: &mut Generator, card: &Card, k: u8) -> Opening {
     }
 }
 
-/// Another t, with an e (in challenge 0 an r too) that keeps what the first opening is made of.
-fn other_second_vectors(honest: &Judgement, place: usize) -> Judgement {
-    let system = read(&honest.system);
+/// The reply with another t, which differs at that place, and an e (in challenge 0 an r too) that
+/// keeps what the first opening is made of.
+pub fn other_second_vectors(system: &System, challenge: u8, reply: &[u8], place: usize) -> Vec<u8> {
     let (field, n, m) = (system.field, system.n, system.m());
     let mut step = vec![0; n];
     step[place] = 1;
-    let reply = &honest.round.reply;
     let [r, t, e] = [&reply[..n], &reply[n..2 * n], &reply[2 * n..2 * n + m]];
     let new_t = sum(field, t, &step);
-    let (new_r, new_e) = if honest.round.challenge == 0 {
+    let (new_r, new_e) = if challenge == 0 {
         let new_r = sum(field, r, &step);
-        let moved = difference(field, &evaluate(&system, &new_r), &evaluate(&system, r));
+        let moved = difference(field, &evaluate(system, &new_r), &evaluate(system, r));
         (new_r, sum(field, e, &moved))
     } else {
-        (r.to_vec(), difference(field, e, &polar(&system, &step, r)))
+        (r.to_vec(), difference(field, e, &polar(system, &step, r)))
     };
-    let new_reply = [&new_r, &new_t, &new_e, &reply[2 * n + m..]].concat();
-    honest.with_round(|round| round.reply = new_reply)
+    [&new_r, &new_t, &new_e, &reply[2 * n + m..]].concat()
 }
 
 /// Both openings fail: e changed, the two ρ exchanged, the two commitments exchanged.

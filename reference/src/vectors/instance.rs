@@ -3,7 +3,7 @@
 use super::case::Call;
 use super::piece::Piece;
 use crate::random::Generator;
-use crate::system::{length, width, MOST};
+use crate::system::{length, width, Dimensions, HEAD, MOST};
 
 /// q, n and m as a system's head has them.
 #[derive(Clone, Copy, Debug)]
@@ -32,6 +32,11 @@ impl Shape {
         usize::from(self.m)
     }
 
+    /// q, n and m of a shape that is not refused.
+    pub fn dimensions(self) -> Dimensions {
+        Dimensions::of_bytes(self.q, self.n, self.m).expect("numbers among their values")
+    }
+
     /// The bytes that a system of this shape has, also where the shape is refused.
     pub fn length(self) -> usize {
         length(self.n(), self.m())
@@ -50,6 +55,12 @@ impl Shape {
     /// A system of this shape with a random pattern.
     pub fn random_system(self, random: &mut Generator) -> Piece {
         self.system(&self.random_pattern(random))
+    }
+
+    /// The bytes of a system of this shape in which every coefficient is random, with no pattern.
+    pub fn random_bytes(self, random: &mut Generator) -> Vec<u8> {
+        let coefficients = self.random_elements(random, self.length() - HEAD);
+        [&[self.q, self.n, self.m], &coefficients[..]].concat()
     }
 
     /// Random elements, as many as a prime that no two rows of a system have the same part of.

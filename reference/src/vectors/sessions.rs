@@ -10,7 +10,7 @@ use crate::commitment::RHO;
 use crate::map::evaluate;
 use crate::random::Generator;
 use crate::scheme::{Scheme, SCHEMES};
-use crate::system::{Dimensions, System};
+use crate::system::System;
 
 /// A key with a scheme and N, and the script that its session is played in.
 struct Play<'a> {
@@ -73,11 +73,6 @@ impl Play<'_> {
         }
     }
 
-    fn size(&self) -> Dimensions {
-        let Shape { q, n, m } = self.shape;
-        Dimensions::of_bytes(q, n, m).expect("numbers among their values")
-    }
-
     fn open_card(&self) -> SessionCall {
         SessionCall::OpenCard {
             system: self.system.clone(),
@@ -135,7 +130,7 @@ impl Play<'_> {
     fn reply(&self, round: &Round) -> SessionCall {
         SessionCall::Reply {
             challenge: round.challenge,
-            out: self.scheme.reply_length(self.size()),
+            out: self.scheme.reply_length(self.shape.dimensions()),
         }
     }
 
@@ -148,7 +143,7 @@ impl Play<'_> {
 
     /// Every call but the openings, with right arguments; messages of no round.
     fn every_call(&self, round: &Round) -> Vec<SessionCall> {
-        let size = self.size();
+        let size = self.shape.dimensions();
         vec![
             self.commit(round),
             self.answer(round),
@@ -393,7 +388,11 @@ fn forged(script: &mut Script, scheme: Scheme) {
             round.challenge = challenge;
             let mut sent = play.committed(&round);
             play.asked(&round, &mut sent);
-            forgery(&mut sent.reply, q, scheme.reply_elements(play.size()));
+            forgery(
+                &mut sent.reply,
+                q,
+                scheme.reply_elements(play.shape.dimensions()),
+            );
             play.call(&round, play.take_reply(&sent.reply));
             if accepted == 1 {
                 play.try_every_call();
