@@ -2,7 +2,7 @@
 //! is passed as its address and its length, one after the other.
 
 pub use canvasfox::slices::{evaluate, polar, record_read, report, sha256, simulate, system_check};
-use canvasfox::Finding;
+use canvasfox::{slices, FINDING};
 
 mod c {
     extern "C" {
@@ -111,21 +111,31 @@ pub fn judge(system: &[u8], record: &[u8]) -> Result<u8, u8> {
     }
 }
 
-/// The secret that an audit of three passes finds, or the refusal's number; 0 for a clash.
-pub fn audit_three(system: &[u8], [a, b, c]: &[Vec<u8>; 3]) -> Result<[u8; 96], u8> {
-    secret(canvasfox::audit_three(system, [a, b, c]))
+/// The secret that an audit of three passes finds, within the finding's bytes, which are lent; or the refusal's number, 0 for a
+/// clash.
+pub fn audit_three<'a>(
+    system: &[u8],
+    [a, b, c]: &[Vec<u8>; 3],
+    finding: &'a mut [u8; FINDING],
+) -> Result<&'a [u8], u8> {
+    secret(slices::audit_three(system, a, b, c, finding), finding)
 }
 
 /// The same of five passes.
-pub fn audit_five(system: &[u8], [a, b, c, d]: &[Vec<u8>; 4]) -> Result<[u8; 96], u8> {
-    secret(canvasfox::audit_five(system, [a, b, c, d]))
+pub fn audit_five<'a>(
+    system: &[u8],
+    [a, b, c, d]: &[Vec<u8>; 4],
+    finding: &'a mut [u8; FINDING],
+) -> Result<&'a [u8], u8> {
+    secret(slices::audit_five(system, a, b, c, d, finding), finding)
 }
 
-fn secret(found: Result<Finding, canvasfox::AuditRefusal>) -> Result<[u8; 96], u8> {
-    match found {
-        Ok(Finding::Secret(s)) => Ok(s),
-        Ok(Finding::Clash { .. }) => Err(0),
-        Err(refused) => Err(refused.refusal.number()),
+fn secret(answer: u32, finding: &[u8; FINDING]) -> Result<&[u8], u8> {
+    let [number, ..] = answer.to_le_bytes();
+    if number == 0 && finding[0] == 1 {
+        Ok(&finding[4..100])
+    } else {
+        Err(number)
     }
 }
 

@@ -11,7 +11,7 @@ const ROOM: usize = 1 << 18;
 const STACK: usize = 1 << 20;
 
 /// The most stack that any of the calls uses, in bytes, each on a stack that was just painted. The harness's own frame that
-/// makes the call is counted too, some 20 to 100 bytes.
+/// makes the call is counted too, some 20 to 140 bytes.
 pub fn most(calls: Vec<Box<dyn FnMut() + Send + '_>>) -> usize {
     let used = thread::scope(|scope| {
         let measuring = thread::Builder::new().stack_size(STACK);

@@ -4,12 +4,13 @@ use crate::engine::{self, Round};
 use crate::inputs::{challenges_in_turn, elements, Card, Question, Session};
 use crate::stack::most;
 use crate::table::Table;
+use canvasfox::FINDING;
 use reference::random::Generator;
 use reference::scheme::Scheme;
 
 pub const MEASURED: &str = "\
 The lowest byte of a painted stack that a call changes, at n = m = 96 and q = 251 (the report: q = 31, n = m = 48, which its
-65,536 bytes hold), over every challenge; the harness's own call is counted too, some 20 to 100 bytes. A session's calls take
+65,536 bytes hold), over every challenge; the harness's own call is counted too, some 20 to 140 bytes. A session's calls take
 and return the session by value and are measured together, as one round in one function, whose own copies of the session count.
 The engine takes no memory from the heap and calls nothing recursively, so these do not grow with the input.
 
@@ -73,6 +74,7 @@ fn entries() -> Vec<(String, usize)> {
     let mut other = vec![0; tall];
     let mut written = vec![0; session.record.len()];
     let mut text = vec![0; 8192];
+    let [mut finding, mut finding_of_five] = [[0; FINDING]; 2];
     let rows: Vec<(&str, Calls)> = vec![
         (
             "check of a system",
@@ -129,13 +131,13 @@ fn entries() -> Vec<(String, usize)> {
         (
             "audit_three",
             vec![Box::new(|| {
-                assert!(engine::audit_three(system, three).is_ok())
+                assert!(engine::audit_three(system, three, &mut finding).is_ok())
             })],
         ),
         (
             "audit_five",
             vec![Box::new(|| {
-                assert!(engine::audit_five(&five.system, four).is_ok())
+                assert!(engine::audit_five(&five.system, four, &mut finding_of_five).is_ok())
             })],
         ),
     ];

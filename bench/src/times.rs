@@ -4,6 +4,7 @@ use crate::inputs::{challenges_in_turn, elements, system, Card};
 use crate::table::{micros, millis, ratio, Table};
 use crate::timing::{best, Effort, Side};
 use crate::{engine, plain};
+use canvasfox::FINDING;
 use reference::random::Generator;
 use reference::scheme::Scheme;
 use std::hint::black_box;
@@ -192,11 +193,14 @@ fn auditing(effort: Effort, card: &Card, records: &[Vec<u8>; 3]) -> Vec<f64> {
     let system = &card.system[..];
     let mut secret = [0; 96];
     secret[..card.s.len()].copy_from_slice(&card.s);
-    assert_eq!(engine::audit_three(system, records), Ok(secret));
+    let mut finding = [0; FINDING];
+    let found = engine::audit_three(system, records, &mut finding);
+    assert_eq!(found, Ok(&secret[..]));
     assert_eq!(plain::audit::audit_three(system, records), Ok(secret));
     let mut sides: [Side; 2] = [
         Box::new(|| {
-            let _ = black_box(engine::audit_three(black_box(system), black_box(records)));
+            let (system, records) = (black_box(system), black_box(records));
+            let _ = black_box(engine::audit_three(system, records, &mut finding));
         }),
         Box::new(|| {
             let _ = black_box(plain::audit::audit_three(
@@ -296,12 +300,13 @@ pub fn longest(effort: Effort) -> String {
     let mut table = Table::new(&["what", "milliseconds"]);
     let card = Card::random(&mut random, Scheme::ThreePass, q, n, m, MOST_ROUNDS);
     let records = card.three_records(&mut random);
-    let audit = || engine::audit_three(&card.system, &records).is_ok();
+    let mut finding = [0; FINDING];
+    let audit = || engine::audit_three(&card.system, &records, &mut finding).is_ok();
     let time = alone(effort, audit);
     table.row(vec![format!("audit of 3 {of_rounds}"), millis(time)]);
     let card = Card::random(&mut random, Scheme::FivePass, q, n, m, MOST_ROUNDS);
     let records = card.four_records(q);
-    let audit = || engine::audit_five(&card.system, &records).is_ok();
+    let audit = || engine::audit_five(&card.system, &records, &mut finding).is_ok();
     let time = alone(effort, audit);
     table.row(vec![format!("audit of 4 {of_rounds}"), millis(time)]);
     table.text().to_string()
