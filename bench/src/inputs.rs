@@ -2,16 +2,17 @@
 
 use reference::random::Generator;
 use reference::record::{write, Header, Layout};
-use reference::rounds;
+use reference::rounds::honest;
 use reference::scheme::Scheme;
-use reference::system::{length, System};
+use reference::system::System;
+use reference::vectors::instance::Shape;
 
-/// A system of random coefficients, with its sizes in front.
+/// The largest q, n and m.
+pub const LARGEST: (u8, u8, u8) = (251, 96, 96);
+
+/// A system of random coefficients.
 pub fn system(random: &mut Generator, q: u8, n: u8, m: u8) -> Vec<u8> {
-    let mut bytes = vec![q, n, m];
-    let coefficients = length(usize::from(n), usize::from(m)) - bytes.len();
-    bytes.extend(random.bytes_below(u16::from(q), coefficients));
-    bytes
+    Shape::new(q, n, m).random_bytes(random)
 }
 
 /// So many random elements.
@@ -74,14 +75,12 @@ impl Card {
         let mut commitments = Vec::new();
         let mut exchanges = Vec::new();
         for (lent, question) in self.lent.iter().zip(questions) {
-            commitments.extend(rounds::commit(&system, self.scheme, &self.s, lent));
-            if self.scheme == Scheme::FivePass {
-                exchanges.push(question.alpha);
-                exchanges.extend(rounds::answer(&system, question.alpha, lent));
-            }
-            exchanges.push(question.challenge);
-            let reply = rounds::reply(&system, self.scheme, &self.s, lent, question.challenge);
-            exchanges.extend(reply);
+            let Question { alpha, challenge } = *question;
+            let round = honest(&system, self.scheme, &self.s, lent, alpha, challenge);
+            commitments.extend(round.commitments);
+            exchanges.extend(round.middle);
+            exchanges.push(challenge);
+            exchanges.extend(round.reply);
         }
         let layout = Layout::of(Header::of_bytes(header).expect("a header's values"));
         Session {

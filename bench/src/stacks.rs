@@ -1,7 +1,7 @@
 //! The table of stack use.
 
 use crate::engine::{self, Round};
-use crate::inputs::{challenges_in_turn, elements, Card, Question, Session};
+use crate::inputs::{challenges_in_turn, elements, Card, Question, Session, LARGEST};
 use crate::stack::most;
 use crate::table::Table;
 use canvasfox::FINDING;
@@ -18,8 +18,6 @@ The engine takes no memory from the heap and calls nothing recursively, so these
 
 /// Calls that are measured together.
 type Calls<'a> = Vec<Box<dyn FnMut() + Send + 'a>>;
-
-const LARGEST: (u8, u8, u8) = (251, 96, 96);
 
 pub fn measured() -> String {
     let mut rows = entries();

@@ -1,6 +1,6 @@
 //! The tables of times.
 
-use crate::inputs::{challenges_in_turn, elements, system, Card};
+use crate::inputs::{challenges_in_turn, elements, system, Card, LARGEST};
 use crate::table::{micros, millis, ratio, Table};
 use crate::timing::{best, Effort, Side};
 use crate::{engine, plain};
@@ -288,8 +288,7 @@ The engine alone, on the largest inputs that it takes, best of some, in millisec
 
 ";
 
-/// The largest n, m and N.
-const LARGEST: (u8, u8, u8) = (251, 96, 96);
+/// The largest N.
 const MOST_ROUNDS: u8 = 255;
 
 /// The calls that take longest.
