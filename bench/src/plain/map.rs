@@ -38,8 +38,8 @@ pub fn nested_evaluate(system: &[u8], x: &[u8], out: &mut [u8]) -> Result<(), u8
                 at += 1;
             }
         }
-        for i in 0..n {
-            sum += u64::from(system[at]) * u64::from(x[i]);
+        for &element in x {
+            sum += u64::from(system[at]) * u64::from(element);
             at += 1;
         }
         *value = (sum % u64::from(system[0])) as u8;
