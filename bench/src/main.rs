@@ -1,6 +1,10 @@
 //! Times the proved engine against Rust in one process, measures the engine's stack use, and prints both as Markdown.
 //!
 //! Every side is run on the same inputs, and all answers are compared before anything is timed.
+//!
+//! usage: bench [--quick] [--times | --with FILE]
+//! `--times` prints nothing but the times, a line for each task. `--with FILE` takes those of the other build, whose code lies
+//! 16 bytes further on, and prints the page with the better of both.
 
 mod engine;
 mod inputs;
@@ -12,29 +16,48 @@ mod table;
 mod times;
 mod timing;
 
+use std::cell::RefCell;
 use std::time::Duration;
-use timing::Effort;
+use timing::{Effort, Log};
+
+// The code of both sides 16 bytes further on: where a loop starts within 32 bytes moves its time.
+#[cfg(shifted)]
+std::arch::global_asm!(
+    ".section .text.shift, \"axR\", @progbits",
+    ".p2align 4",
+    ".skip 16"
+);
 
 fn main() {
-    let quick = std::env::args().any(|word| word == "--quick");
-    let effort = if quick {
-        Effort {
-            time: Duration::from_millis(100),
-            turns: 5,
+    let words: Vec<String> = std::env::args().skip(1).collect();
+    let has = |word: &str| words.iter().position(|other| other == word);
+    let log = match has("--with") {
+        Some(place) => {
+            Log::after(&std::fs::read_to_string(&words[place + 1]).expect("a file of times"))
         }
-    } else {
-        Effort {
-            time: Duration::from_millis(1500),
-            turns: 60,
-        }
+        None => Log::default(),
     };
-    print!("{}", page(effort));
+    let log = RefCell::new(log);
+    let (time, turns) = match has("--quick") {
+        Some(_) => (100, 5),
+        None => (1500, 60),
+    };
+    let time = Duration::from_millis(time);
+    let page = page(Effort {
+        time,
+        turns,
+        log: &log,
+    });
+    match has("--times") {
+        Some(_) => print!("{}", log.borrow().text()),
+        None => print!("{page}"),
+    }
 }
 
 /// The whole page.
 fn page(effort: Effort) -> String {
     let mut page = String::new();
-    page += "# Performance\n\nMade by `bench/run --store`, which builds both sides and times them in one process. Not edited by hand.\n\n";
+    page += "# Performance\n\nMade by `bench/run --store`, which builds both sides, twice, and times them in one process. Not edited by hand.\n\n";
     page += &machine::described();
     page += "\n## Against Rust\n\n";
     page += times::COMPARED;

@@ -20,7 +20,8 @@ const KEY: (u8, u8, u8) = (2, 84, 80);
 const ROUNDS: u8 = 52;
 
 pub const COMPARED: &str = "\
-Best of many, in microseconds; the sides take turns.
+Best of many, in microseconds; the sides take turns. Where a loop starts within 32 bytes moves its time by some 10 % on either side, and
+any change of the code moves that: each time is the better of two builds, the second with all code 16 bytes further on.
 
 - `same form` is Rust in the form of the engine. F and G: the monomials once for a vector, then for each polynomial a product of two
   rows, in blocks of constant length. SHA-256: FIPS 180-4 as it stands, with no intrinsics. A record and an
@@ -226,6 +227,7 @@ pub fn growth(effort: Effort) -> String {
     let effort = Effort {
         time: effort.time / 3,
         turns: effort.turns / 2,
+        ..effort
     };
     let mut random = Generator::from_seed(2);
     let mut table = Table::new(&[
