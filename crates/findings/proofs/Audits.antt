@@ -131,6 +131,13 @@ module _ (system a b c : List ℕ) where
         full-tells = λ r e. three-full a b c r (sym (set-three a b c c r) ∙ e);
         full-when = λ r full. set-three a b c c r ∙ full-three a b c r full;
         secret-solves = secret-solves-three;
+        secret-halves = λ r full.
+            record {
+              x-among = answering-among a b c r 0;
+              y-among = answering-among a b c r 1;
+              x-challenge = asked a b c r full 0 (omega arith);
+              y-challenge = asked a b c r full 1 (omega arith);
+            };
         pair-order = λ r k full h.
             let o = other-two k in
             record {
@@ -256,6 +263,7 @@ module _ (system a b c d : List ℕ) where
         full-tells = λ r e. five-full a b c d r (sym (set-five a b c d r) ∙ e);
         full-when = λ r full. set-five a b c d r ∙ full-five a b c d r full;
         secret-solves = λ s r h full same. secret-solves-five (s .good) (four-sound s) r h full same;
+        secret-halves = λ r full. (a-answers r full, b-answers r full);
         pair-order = λ r k full h. order-five r k h;
         left-sound = λ s r k. left-sound-five (four-sound s) r k;
         right-sound = λ s r k. right-sound-five (four-sound s) r k;

@@ -23,12 +23,12 @@ use Rattle.transcript.proofs.Search.{FirstIs, where-none, found-where}
 use Rattle.comparable.specs.declared.Rejection.{Rejection}
 use Rattle.comparable.specs.Comparable.{frontRefusal, rejectionOf}
 use Rattle.comparable.proofs.Front.{Front, front, none-refused}
-use Rattle.openings.specs.Openings.{openingIn, compared, sameOpenings, secretOf}
+use Rattle.openings.specs.Openings.{openingIn, compared, sameOpenings, replyVector, secretOf}
 use Rattle.full_set.specs.FullSet.{answering, fullSet, firstFull}
 use Rattle.clash.specs.Clash.{leftRecord, rightRecord, leftOpening, rightOpening, samePair, pairs, firstClash}
 use Rattle.auditing.specs.Audit.{secretAt, clashAt, findingAt, searchOf, auditOf}
 use Rattle.auditing.proofs.Outcomes.{finding-secret, finding-clash, search-none, search-found, audit-refused, audit-rejected, audit-searched}
-use Rattle.findings.specs.Findings.{Auditable, AllAccepted, Each, Scheme, Due, RoundUsed, Compared, Agree, Right, IsFinding, Claim}
+use Rattle.findings.specs.Findings.{Auditable, AllAccepted, Each, Scheme, Due, RoundUsed, Compared, Agree, firstVector, Right, IsFinding, Claim}
 use Rattle.findings.proofs.Comparing.{front-number}
 use Rattle.findings.proofs.Rejecting.{walk, all-accepted, none-rejected, first-rejected}
 use Rattle.findings.proofs.Strings.{Opened, opened-vectors}
@@ -55,6 +55,7 @@ pub record Laws (t : Scheme) (b c d : List ℕ) : Type 0 where
   pub secret-solves : AllSound t → (r : ℕ) → r < headerIn (t .first) .rounds → t .Full r →
       ((k : ℕ) → k < pairs (t .scheme) → samePair (t .scheme) (t .system) (t .first) b c d r k ≡ true) →
       F (t .system) (secretOf (t .system) (answering (t .first) b c r 0) (answering (t .first) b c r 1) r) ≡ keyVector (t .first)
+  pub secret-halves : (r : ℕ) → t .Full r → t .Halves r (answering (t .first) b c r 0) (answering (t .first) b c r 1)
   pub pair-order : (r k : ℕ) → t .Full r → k < pairs (t .scheme) → t .Order r k (leftRecord (t .scheme) (t .first) b c r k) (rightRecord (t .scheme) (t .first) b c d r k)
   pub left-sound : AllSound t → (r k : ℕ) → Sound (t .scheme) (t .system) (t .first) (leftRecord (t .scheme) (t .first) b c r k)
   pub right-sound : AllSound t → (r k : ℕ) → Sound (t .scheme) (t .system) (t .first) (rightRecord (t .scheme) (t .first) b c d r k)
@@ -157,7 +158,7 @@ module _ (t : Scheme) (b c d : List ℕ) (laws : Laws t b c d) where
       sym (opened-vectors scheme system (p .right) _ r k y (p .right-vectors) (only .2) (p .right-opens) (p .right-has) (laws .right-opened s r k full (only .0)))
 
   secret-right : AllSound t → (r : ℕ) → Used r → firstClash scheme system a b c d r ≡ 0 → Right t (secretAt system a b c r)
-  unfolding Right secretAt firstClash secretOf mapOf
+  unfolding Right secretAt firstClash secretOf replyVector firstVector mapOf
   secret-right s r used none =
       let round = round-used r used in
       let same : (k : ℕ) → k < pairs scheme → samePair scheme system a b c d r k ≡ true =
@@ -169,6 +170,10 @@ module _ (t : Scheme) (b c d : List ℕ) (laws : Laws t b c d) where
         round = r;
         used = round;
         none-differs = λ k. agree s r k (round .full) (same k);
+        zero-record = answering a b c r 0;
+        one-record = answering a b c r 1;
+        halves = laws .secret-halves r (round .full);
+        sum = refl;
       }
 
   clash-right : AllSound t → (r : ℕ) → Used r → (k : ℕ) → Differs r k → Right t (clashAt scheme system a b c d r k)

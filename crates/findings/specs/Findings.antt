@@ -9,7 +9,8 @@ use lib.ListN.{length}
 use Rattle.slices.specs.Slices.{_!_}
 use Rattle.sha256.specs.Sha256.{sha256}
 use Rattle.commitment.specs.Commitment.{hashedString}
-use Rattle.system.specs.System.{qOf, nOf, mOf, F, WellFormedSystem}
+use Rattle.field.specs.Vector.{addV, slotV}
+use Rattle.system.specs.System.{qOf, nOf, mOf, opsOf, F, WellFormedSystem}
 use Rattle.protocol.specs.Rounds.{IsX}
 use Rattle.round.specs.Pieces.{commitment}
 use Rattle.round.specs.ThreePass.{firstNumber, secondNumber, firstString, secondString}
@@ -68,7 +69,18 @@ pub record OrderThree (a b c : List ℕ) (r k : ℕ) (left right : List ℕ) : T
 abbrev pub OrderFive : List ℕ → List ℕ → List ℕ → List ℕ → ℕ → ℕ → List ℕ → List ℕ → Type 0
 OrderFive a b c d r k left right = ((k ≡ 0) × (left ≡ a) × (right ≡ c)) ⊎ ((k ≡ 1) × (left ≡ b) × (right ≡ d))
 
--- ---- the audit of a scheme: its records, the full set in a round, and the order of the two strings of commitment k
+-- "s = r0 + r1": the records whose replies have r0 and r1, to the challenges 0 and 1
+pub record HalvesThree (a b c : List ℕ) (r : ℕ) (x y : List ℕ) : Type 0 where
+  pub x-among : Among a b c x
+  pub y-among : Among a b c y
+  pub x-challenge : roundChallenge x r ≡ 0
+  pub y-challenge : roundChallenge y r ≡ 1
+
+-- "(scheme 5: A's r0, B's r1)"
+abbrev pub HalvesFive : List ℕ → List ℕ → ℕ → List ℕ → List ℕ → Type 0
+HalvesFive a b r x y = (x ≡ a) × (y ≡ b)
+
+-- ---- the audit of a scheme: its records, the full set in a round, the order of the two strings of commitment k, and whose replies have r0 and r1
 
 pub record Scheme : Type 1 where
   pub scheme : ℕ
@@ -77,14 +89,15 @@ pub record Scheme : Type 1 where
   pub others : List (List ℕ)
   pub Full : ℕ → Type 0
   pub Order : ℕ → ℕ → List ℕ → List ℕ → Type 0
+  pub Halves : ℕ → List ℕ → List ℕ → Type 0
 
 unfoldable pub threePass : List ℕ → List ℕ → List ℕ → List ℕ → Scheme
 threePass system a b c =
-    record { scheme = 3; system = system; first = a; others = b ∷ c ∷ []; Full = FullThree a b c; Order = OrderThree a b c }
+    record { scheme = 3; system = system; first = a; others = b ∷ c ∷ []; Full = FullThree a b c; Order = OrderThree a b c; Halves = HalvesThree a b c }
 
 unfoldable pub fivePass : List ℕ → List ℕ → List ℕ → List ℕ → List ℕ → Scheme
 fivePass system a b c d =
-    record { scheme = 5; system = system; first = a; others = b ∷ c ∷ d ∷ []; Full = FullFive a b c d; Order = OrderFive a b c d }
+    record { scheme = 5; system = system; first = a; others = b ∷ c ∷ d ∷ []; Full = FullFive a b c d; Order = OrderFive a b c d; Halves = HalvesFive a b }
 
 -- each of the records
 pub data Each (P : List ℕ → Type 0) : List (List ℕ) → Type 0 where
@@ -151,13 +164,21 @@ pub record TrueClash (t : Scheme) (k : ℕ) (x y : List ℕ) : Type 0 where
   pub left-hashes : sha256 x ≡ commitment (commitmentsIn (roundCommitments (t .first) round)) k
   pub right-hashes : sha256 y ≡ commitment (commitmentsIn (roundCommitments (t .first) round)) k
 
--- "a vector s with F(s) = v", "v is the records' key"; "If none differs, the finding is s"
+-- the first vector of a reply: "r0, t1, e1", "r1, t1, e1", "reply r0, ρ0", "reply r1, ρ1"
+unfoldable pub firstVector : List ℕ → List ℕ → ℕ → List ℕ
+firstVector system b r = slotV (nOf system) 0 (roundReply b r)
+
+-- "a vector s with F(s) = v", "v is the records' key"; "If none differs, the finding is s = r0 + r1"
 pub record TrueSecret (t : Scheme) (s : List ℕ) : Type 0 where
   pub is-vector : IsX (t .system) s
   pub solves : F (t .system) s ≡ keyVector (t .first)
   pub round : ℕ
   pub used : RoundUsed t round
   pub none-differs : (k : ℕ) → Agree t round k
+  pub zero-record : List ℕ
+  pub one-record : List ℕ
+  pub halves : t .Halves round zero-record one-record
+  pub sum : s ≡ addV (opsOf (t .system)) (nOf (t .system)) (firstVector (t .system) zero-record round) (firstVector (t .system) one-record round)
 
 -- 8: "first record, then first round, both given, counted from 1"
 pub data FirstRejected (system : List ℕ) : List (List ℕ) → ℕ → ℕ → Type 0 where
