@@ -57,7 +57,7 @@ fn main() {
 /// The whole page.
 fn page(effort: Effort) -> String {
     let mut page = String::new();
-    page += "# Performance\n\nMade by `bench/run --store`, which builds both sides, twice, and times them in one process. Not edited by hand.\n\n";
+    page += "# Performance\n\nMade by `bench/run --store`, which builds both sides twice and times both in one process for each build. Not edited by hand.\n\n";
     page += &machine::described();
     page += "\n## Against Rust\n\n";
     page += times::COMPARED;

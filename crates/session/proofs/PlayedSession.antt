@@ -98,7 +98,7 @@ module _ (o : Opening) (k : Opens o) where
 
     -- ---- what the card sends, as its states name it
 
-    commitments-are : sentCommitments (fresh o d) (o .system) (d .lent) ≡ St.commitmentsOf o (d .lent)
+    commitments-are : sentCommitments (fresh o) (o .system) (d .lent) ≡ St.commitmentsOf o (d .lent)
     commitments-are = ap (λ (c : Card). sentCommitments c (o .system) (d .lent)) (card-opens o) ∙ sent-commitments-is o 0 (d .lent)
 
     lending-is : lending o d ≡ St.heldCard o (cond (eqb (o .scheme) 3) Reply AnswerAlpha) 0 (d .lent)
@@ -112,7 +112,7 @@ module _ (o : Opening) (k : Opens o) where
 
     -- ---- its lengths and elements
 
-    commitments-long : length (sentCommitments (fresh o d) (o .system) (d .lent)) ≡ commitmentsLength (o .scheme)
+    commitments-long : length (sentCommitments (fresh o) (o .system) (d .lent)) ≡ commitmentsLength (o .scheme)
     unfolding St.commitmentsOf commitmentsLength
     commitments-long =
         ap length commitments-are ∙
@@ -146,7 +146,7 @@ module _ (o : Opening) (k : Opens o) where
     -- both ends in round r, the commitments taken
     abbrev begun : ℕ → Given → Asked → CardPhase → CarrierPhase → World
     begun r g a card-due carrier-due =
-        both (St.heldCard o card-due r (d .lent)) (St.carrierAt o carrier-due r (held (sentCommitments (fresh o d) (o .system) (d .lent))) (zeros 193) 0) r g a
+        both (St.heldCard o card-due r (d .lent)) (St.carrierAt o carrier-due r (held (sentCommitments (fresh o) (o .system) (d .lent))) (zeros 193) 0) r g a
 
     module _ (cs : List Call) where
       -- the commitments are given and taken

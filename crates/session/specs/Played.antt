@@ -15,7 +15,7 @@ use Rattle.card.specs.declared.session.Card.{Card}
 use Rattle.card.specs.Card.{openedCard, committedCard, sentCommitments, sentMiddle, sentReply}
 use Rattle.session.specs.Session.{Opening, Call, commit, answerAlpha, reply, takeCommitments, setAlpha, takeMiddle, setChallenge, takeReply, World, refusal, step, Unaltered}
 
--- "An opening to which no numbered refusal applies isn't refused.": 2 and 3 of the system, 1, 2, 3, 5
+-- "An opening to which no numbered refusal applies isn't refused.": none of the system's, no 1, 2, 3 or 5
 pub record Openable (o : Opening) : Type 0 where
   pub system-well-formed : WellFormedSystem (o .system)
   pub scheme-value : (o .scheme ≡ 3) ⊎ (o .scheme ≡ 5)
@@ -40,6 +40,7 @@ pub record Fits (o : Opening) (d : Draw) : Type 0 where
   pub alpha-element : (o .scheme ≡ 3 → ⊥) → d .α < qOf (o .system)
   pub challenge-value : d .challenge < challenges (o .scheme)
 
+-- each of them, a round each
 unfoldable pub AllFit : Opening → List Draw → Type 0
 AllFit o [] = Unit
 AllFit o (d ∷ ds) = Fits o d × AllFit o ds
@@ -47,11 +48,11 @@ AllFit o (d ∷ ds) = Fits o d × AllFit o ds
 -- ---- the calls
 
 module _ (o : Opening) where
+  abbrev pub fresh : Card
+  fresh = openedCard (o .system) (o .scheme) (o .rounds) (o .secret)
+
   module _ (d : Draw) where
     -- a card to which this is lent: what it sends in a round hangs on what is lent for it, and not on the round's number
-    abbrev pub fresh : Card
-    fresh = openedCard (o .system) (o .scheme) (o .rounds) (o .secret)
-
     abbrev pub lending : Card
     lending = committedCard fresh (o .system) (d .lent)
 
@@ -89,6 +90,7 @@ module _ (o : Opening) where
     abbrev pub roundCalls : List Call
     roundCalls = cond (eqb (o .scheme) 3) threeCalls fiveCalls
 
+  -- round after round
   unfoldable pub sessionCalls : List Draw → List Call
   sessionCalls [] = []
   sessionCalls (d ∷ ds) = roundCalls d ++ sessionCalls ds

@@ -28,9 +28,11 @@ simulateRefusal b v guess challenge lent commitments reply =
 unfoldable pub lentBehind : ℕ → ℕ → List ℕ → Lent
 lentBehind n m lent = lentIn n m (drop n lent)
 
+-- "it forms r1 = s' - r0, t1 = r0 - t0, and e1", from s' and what is lent behind it
 unfoldable pub vectorsFrom : List ℕ → ℕ → List ℕ → List ℕ → Lent → Vectors (List ℕ) (List ℕ)
 vectorsFrom b guess v lent l = simulated (mapOf b) guess (held v) (slotV (nOf b) 0 lent) (l .r0) (l .t0) (l .e0)
 
+-- the same from the whole slice
 unfoldable pub vectorsIn : List ℕ → ℕ → List ℕ → List ℕ → Vectors (List ℕ) (List ℕ)
 vectorsIn b guess v lent = vectorsFrom b guess v lent (lentBehind (nOf b) (mOf b) lent)
 
