@@ -4,10 +4,10 @@ use mathlib.Core.List.{List}
 use Rattle.refusal.specs.Refusal.{kept}
 use Rattle.record.specs.declared.layout.Header.{Header}
 use Rattle.session_state.specs.declared.Verdict.the-variants.{None}
-use Rattle.card.specs.declared.session.Card.{Card}
-use Rattle.card.specs.Card as C
-use Rattle.carrier.specs.declared.session.Carrier.{Carrier}
-use Rattle.carrier.specs.Carrier as R
+use Rattle.card_state.specs.declared.session.Card.{Card}
+use Rattle.card_state.specs.Card as C
+use Rattle.carrier_state.specs.declared.session.Carrier.{Carrier}
+use Rattle.carrier_state.specs.Carrier as R
 
 -- the header with these values
 abbrev pub headerOf : ℕ → ℕ → ℕ → ℕ → ℕ → Header

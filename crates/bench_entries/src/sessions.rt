@@ -4,8 +4,8 @@ ghost use mathlib.Core.Path.{_≡_};
 ghost use mathlib.Core.Bool.{false};
 ghost use lib.ListN.{length};
 ghost use Rattle.refusal.specs.Refusal.{kept};
-ghost use Rattle.card.specs.Card.{sentCommitments, sentMiddle, sentReply, commitRefusal, alphaRefusal, replyRefusal as cardReplyRefusal};
-ghost use Rattle.carrier.specs.Carrier.{acceptsReply, replyRefusal as carrierReplyRefusal};
+ghost use Rattle.card_state.specs.Card.{sentCommitments, sentMiddle, sentReply, commitRefusal, alphaRefusal, replyRefusal as cardReplyRefusal};
+ghost use Rattle.carrier_state.specs.Carrier.{acceptsReply, replyRefusal as carrierReplyRefusal};
 ghost use Rattle.bench_entries.specs.Bench.{openCard, cardCommitted, cardAnswered, carrierAsked};
 
 // The card: open with one round, commit, reply to α, reply. Answers the refusal of the reply.

@@ -1,34 +1,17 @@
 // The card's reply to α.
-use crate::session::Card;
-use crate::session::CardAnswer;
-use crate::session::CardPhase;
-use crate::session::card_with;
-use crate::session::held_lent;
-use crate::session::phase_number;
+use card_state::Card;
+use card_state::CardAnswer;
+use card_state::CardPhase;
+use card_state::alpha_refusal;
+use card_state::card_with;
+use card_state::held_lent;
 use exchange::write_middle;
-use refusal::first;
-use refusal::unless;
 use round::middle;
-use session_state::state_refusal;
 use slices::byte_at;
-use system::lent_refusal;
 ghost use mathlib.Core.Path.{_≡_};
 ghost use lib.ListN.{length};
 ghost use Rattle.refusal.specs.Refusal.{kept};
-ghost use Rattle.card.specs.Card.{alphaRefusal, answeredCard, sentMiddle};
-
-fn alpha_refusal(card: Card, system: &[u8], alpha: u8, out_len: usize) -> u8
-    ensures { λ r. ⌜ r ≡ alphaRefusal card (now (system .entry)) alpha «out_len» ⌝ }
-{
-    let phase = card.phase;
-    let state = state_refusal(phase_number(phase), 2);
-    let lent = lent_refusal(system, card.q, card.n, card.m);
-    let back = first(
-        unless(out_len == card.n as usize + card.m as usize, 2),
-        unless(alpha < card.q, 3),
-    );
-    first(state, first(lent, back))
-}
+ghost use Rattle.card_state.specs.Card.{alphaRefusal, answeredCard, sentMiddle};
 
 // Five passes: writes t1 and e1 for α to `out`.
 pub fn answer_alpha(card: Card, system: &[u8], alpha: u8, out: &mut [u8]) -> CardAnswer

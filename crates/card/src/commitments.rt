@@ -1,23 +1,16 @@
 // The card's commitments of a round.
-use crate::session::Card;
-use crate::session::CardAnswer;
-use crate::session::CardPhase;
-use crate::session::card_with;
-use crate::session::phase_number;
+use card_state::Card;
+use card_state::CardAnswer;
+use card_state::CardPhase;
+use card_state::card_with;
+use card_state::commit_refusal;
 use exchange::read_lent;
 use exchange::write_commitments;
 use exchange::write_two_commitments;
-use field::all_below;
-use refusal::first;
-use refusal::unless;
 use round::card_three;
 use round::commitments_five;
 use round::commitments_three;
-use scheme::commitments_length;
-use session_state::state_refusal;
 use slices::byte_at;
-use slices::part;
-use system::lent_refusal;
 ghost use mathlib.Core.Path.{_≡_};
 ghost use lib.ListN.{length};
 ghost use Rattle.slices.specs.Slices.{zeros};
@@ -25,24 +18,8 @@ ghost use Rattle.refusal.specs.Refusal.{kept};
 ghost use Rattle.system.specs.System.{nOf, mOf, systemRefusal};
 ghost use Rattle.exchange.specs.Messages.{lentIn, threeCommitments, fiveCommitments};
 ghost use Rattle.exchange.specs.Card.{threeVectors, threeCommitted, fiveCommitted};
-ghost use Rattle.card.specs.declared.session.CardPhase.the-variants.{AnswerAlpha, Reply};
-ghost use Rattle.card.specs.Card.{cardWith, commitRefusal, committedCard, sentCommitments};
-
-fn commit_refusal<'a>(card: Card, system: &'a [u8], lent: &'a [u8], out_len: usize) -> u8
-    ensures { λ r. ⌜ r ≡ commitRefusal card (now (system .entry)) (now (lent .entry)) «out_len» ⌝ }
-{
-    let phase = card.phase;
-    let vectors = card.n as usize + card.n as usize + card.m as usize;
-    let each = commitments_length(card.scheme);
-    let state = state_refusal(phase_number(phase), 1);
-    let front = lent_refusal(system, card.q, card.n, card.m);
-    let lengths = first(
-        unless(lent.len() == vectors + each, 2),
-        unless(out_len == each, 2),
-    );
-    let elements = unless(all_below(card.q, part(lent, 0, vectors)), 3);
-    first(state, first(front, first(lengths, elements)))
-}
+ghost use Rattle.card_state.specs.declared.session.CardPhase.the-variants.{AnswerAlpha, Reply};
+ghost use Rattle.card_state.specs.Card.{cardWith, commitRefusal, committedCard, sentCommitments};
 
 // Three passes: writes the commitments, and keeps what is lent and e1.
 fn commit_three<'a>(card: Card, system: &'a [u8], lent: &'a [u8], out: &mut [u8]) -> Card

@@ -1,25 +1,19 @@
 // The card's reply to a challenge, with which its round ends.
-use crate::session::Card;
-use crate::session::CardAnswer;
-use crate::session::CardPhase;
-use crate::session::card_with;
-use crate::session::closed_card;
-use crate::session::held_lent;
-use crate::session::no_lent;
-use crate::session::phase_number;
+use card_state::Card;
+use card_state::CardAnswer;
+use card_state::CardPhase;
+use card_state::card_with;
+use card_state::closed_card;
+use card_state::held_lent;
+use card_state::no_lent;
+use card_state::reply_refusal;
 use exchange::write_reply_five;
 use exchange::write_reply_three;
 use field::sub_vectors;
-use refusal::first;
-use refusal::unless;
 use round::Vectors;
 use round::reply_five;
 use round::reply_three;
-use scheme::challenges;
-use scheme::reply_length;
 use session_state::next_count;
-use session_state::state_refusal;
-use system::are_sizes;
 ghost use mathlib.Core.Path.{_≡_};
 ghost use mathlib.Core.Bool.{true};
 ghost use lib.ListN.{length};
@@ -27,21 +21,7 @@ ghost use Rattle.refusal.specs.Refusal.{kept};
 ghost use Rattle.system.specs.System.{areSizes};
 ghost use Rattle.scheme.specs.Scheme.{replyLength};
 ghost use Rattle.round.specs.Pieces.{vectorsOf};
-ghost use Rattle.card.specs.Card.{replyRefusal, repliedCard, heldVectors, sentReply};
-
-fn reply_refusal(card: Card, challenge: u8, out_len: usize) -> u8
-    ensures { λ r. ⌜ r ≡ replyRefusal card challenge «out_len» ⌝ }
-{
-    let phase = card.phase;
-    let expected = reply_length(card.scheme, card.n, card.m);
-    let state = state_refusal(phase_number(phase), 3);
-    let values = unless(are_sizes(card.q, card.n, card.m), 1);
-    let back = first(
-        unless(out_len == expected, 2),
-        unless(challenge < challenges(card.scheme), 4),
-    );
-    first(state, first(values, back))
-}
+ghost use Rattle.card_state.specs.Card.{replyRefusal, repliedCard, heldVectors, sentReply};
 
 // The vectors of a three-pass round as the card holds them.
 fn held_vectors(card: Card) -> Vectors

@@ -1,40 +1,32 @@
 // The calls of an open session.
-use crate::session::Carrier;
-use crate::session::CarrierAnswer;
-use crate::session::CarrierPhase;
-use crate::session::Judged;
-use crate::session::answer;
-use crate::session::carrier_with;
-use crate::session::closed_carrier;
-use crate::session::held_middle;
-use crate::session::phase_number;
+use carrier_state::Carrier;
+use carrier_state::CarrierAnswer;
+use carrier_state::CarrierPhase;
+use carrier_state::Judged;
+use carrier_state::alpha_refusal;
+use carrier_state::answer;
+use carrier_state::carrier_with;
+use carrier_state::challenge_refusal;
+use carrier_state::closed_carrier;
+use carrier_state::commitments_refusal;
+use carrier_state::held_middle;
+use carrier_state::middle_refusal;
+use carrier_state::reply_refusal;
 use exchange::judge;
-use field::all_below;
 use field::from_slice;
-use refusal::first;
-use refusal::unless;
-use scheme::challenges;
-use scheme::commitments_length;
-use scheme::reply_length;
-use scheme::vectors_length;
 use session_state::Verdict;
 use session_state::next_count;
-use session_state::state_refusal;
-use slices::part;
-use system::lent_refusal;
 ghost use mathlib.Core.Path.{_≡_};
 ghost use mathlib.Core.Bool.{false};
 ghost use Rattle.refusal.specs.Refusal.{kept};
-ghost use Rattle.carrier.specs.Carrier.{commitmentsRefusal, withCommitments, alphaRefusal, withAlpha, middleRefusal, withMiddle, challengeRefusal, withChallenge, replyRefusal, acceptsReply, judgedCarrier};
+ghost use Rattle.carrier_state.specs.Carrier.{commitmentsRefusal, withCommitments, alphaRefusal, withAlpha, middleRefusal, withMiddle, challengeRefusal, withChallenge, replyRefusal, acceptsReply, judgedCarrier};
 
 // Takes the commitments of a round.
 pub fn take_commitments(c: Carrier, commitments: &[u8]) -> CarrierAnswer
     ensures { λ r. ⌜ (r .refusal ≡ commitmentsRefusal c (now (commitments .entry)))
         × (r .carrier ≡ kept (r .refusal) c (withCommitments c (now (commitments .entry)))) ⌝ }
 {
-    let phase = c.phase;
-    let length = unless(commitments.len() == commitments_length(c.scheme), 2);
-    let refused = first(state_refusal(phase_number(phase), 1), length);
+    let refused = commitments_refusal(c, commitments);
     answer(refused, c, with_commitments(c, commitments))
 }
 
@@ -53,11 +45,7 @@ fn with_commitments(c: Carrier, commitments: &[u8]) -> Carrier
 pub fn set_alpha(c: Carrier, alpha: u8) -> CarrierAnswer
     ensures { λ r. ⌜ (r .refusal ≡ alphaRefusal c alpha) × (r .carrier ≡ kept (r .refusal) c (withAlpha c alpha)) ⌝ }
 {
-    let phase = c.phase;
-    let refused = first(
-        state_refusal(phase_number(phase), 2),
-        unless(alpha < c.q, 3),
-    );
+    let refused = alpha_refusal(c, alpha);
     let sent = c.commitments;
     let held = held_middle(alpha, &[]);
     let with_alpha = carrier_with(c, CarrierPhase::TakeMiddle, c.accepted, sent, held, 0);
@@ -68,12 +56,7 @@ pub fn set_alpha(c: Carrier, alpha: u8) -> CarrierAnswer
 pub fn take_middle(c: Carrier, middle: &[u8]) -> CarrierAnswer
     ensures { λ r. ⌜ (r .refusal ≡ middleRefusal c (now (middle .entry))) × (r .carrier ≡ kept (r .refusal) c (withMiddle c (now (middle .entry)))) ⌝ }
 {
-    let phase = c.phase;
-    let form = first(
-        unless(middle.len() == c.n as usize + c.m as usize, 2),
-        unless(all_below(c.q, middle), 3),
-    );
-    let refused = first(state_refusal(phase_number(phase), 3), form);
+    let refused = middle_refusal(c, middle);
     let sent = c.commitments;
     let held = held_middle(c.middle[0], middle);
     let with_middle = carrier_with(c, CarrierPhase::SetChallenge, c.accepted, sent, held, 0);
@@ -84,11 +67,7 @@ pub fn take_middle(c: Carrier, middle: &[u8]) -> CarrierAnswer
 pub fn set_challenge(c: Carrier, challenge: u8) -> CarrierAnswer
     ensures { λ r. ⌜ (r .refusal ≡ challengeRefusal c challenge) × (r .carrier ≡ kept (r .refusal) c (withChallenge c challenge)) ⌝ }
 {
-    let phase = c.phase;
-    let refused = first(
-        state_refusal(phase_number(phase), 4),
-        unless(challenge < challenges(c.scheme), 4),
-    );
+    let refused = challenge_refusal(c, challenge);
     let sent = c.commitments;
     let held = c.middle;
     let with_challenge = carrier_with(
@@ -100,20 +79,6 @@ pub fn set_challenge(c: Carrier, challenge: u8) -> CarrierAnswer
         challenge,
     );
     answer(refused, c, with_challenge)
-}
-
-fn reply_refusal<'a>(c: Carrier, system: &'a [u8], reply: &'a [u8]) -> u8
-    ensures { λ r. ⌜ r ≡ replyRefusal c (now (system .entry)) (now (reply .entry)) ⌝ }
-{
-    let phase = c.phase;
-    let vectors = vectors_length(c.scheme, c.n, c.m);
-    let state = state_refusal(phase_number(phase), 5);
-    let front = lent_refusal(system, c.q, c.n, c.m);
-    let form = first(
-        unless(reply.len() == reply_length(c.scheme, c.n, c.m), 2),
-        unless(all_below(c.q, part(reply, 0, vectors)), 3),
-    );
-    first(state, first(front, form))
 }
 
 // The session after a round was judged: in its next round, or closed.

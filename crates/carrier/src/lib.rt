@@ -1,11 +1,10 @@
-// The carrier's session: open, then in each round take commitments, in scheme 5 set α and take t1 and e1, set the challenge,
-// and take the reply, which is judged.
+// The carrier's calls: open, then in each round take commitments, in scheme 5 set α and take t1 and e1, set the challenge, and
+// take the reply, which is judged.
 //
 // Each call takes the session by value and hands it back with 0, or with the number of the refusal; then the session is what
-// it was. The answers' order is document 01's: 11, 10; the system's, 7; 1, 2, 3, 4.
+// it was. The session and what is refused are those of `carrier_state`.
 mod calls;
 mod opening;
-mod session;
 
 pub use calls::set_alpha;
 pub use calls::set_challenge;
@@ -13,7 +12,3 @@ pub use calls::take_commitments;
 pub use calls::take_middle;
 pub use calls::take_reply;
 pub use opening::open;
-pub use session::Carrier;
-pub use session::CarrierAnswer;
-pub use session::CarrierPhase;
-pub use session::Judged;

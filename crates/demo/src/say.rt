@@ -1,7 +1,7 @@
 // What is printed of a session.
 use crate::play::Ends;
 use crate::play::Terms;
-use carrier::CarrierPhase;
+use carrier_state::CarrierPhase;
 use libc::STDOUT_FILENO;
 use session_state::Verdict;
 
@@ -50,7 +50,7 @@ pub fn say_ends(ends: Ends) {
     let of_card = card.phase;
     let of_carrier = carrier.phase;
     match of_card {
-        card::CardPhase::Closed(_) => say(b"card closed\n"),
+        card_state::CardPhase::Closed(_) => say(b"card closed\n"),
         _ => say(b"card open\n"),
     }
     match of_carrier {

@@ -1,6 +1,6 @@
 // F and G by value. The monomials of the arguments are formed once, and each polynomial is then one product of two rows.
-use field::combine;
-use field::dot;
+use rows::combine;
+use rows::dot;
 use system::width;
 ghost use mathlib.Core.Path.{_≡_};
 ghost use Prim.Native.Nat.{_≤_};

@@ -6,4 +6,3 @@ pub mod Fields
 pub mod Vectors
 pub mod Rows
 pub mod Sums
-pub mod Parity

@@ -11,6 +11,11 @@ pub modulus-field : (q : ℕ) → isField q ≡ true → modulus q ≡ q
 unfolding modulus
 modulus-field q h = simp h
 
+-- in the field of two elements a sum is its last bit
+pub modulus-two : (q : ℕ) → q ≡ 2 → 2 ≡ modulus q
+unfolding modulus isField
+modulus-two q e = rw e
+
 -- the elements of a field's q are the numbers below it
 pub size-of : (q : ℕ) → isField q ≡ true → ops q .size ≡ q
 unfolding ops

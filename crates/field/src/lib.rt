@@ -8,11 +8,10 @@ mod scalar;
 mod vector;
 
 pub use row::all_below;
-pub use row::combine;
-pub use row::dot;
 pub use scalar::add;
 pub use scalar::is_field;
 pub use scalar::mul;
+pub use scalar::reduce_total;
 pub use scalar::sub;
 pub use vector::add_vectors;
 pub use vector::from_slice;

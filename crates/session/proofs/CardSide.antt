@@ -23,12 +23,12 @@ use Rattle.exchange.specs.Card.{threeVectors, threeReplied}
 use Rattle.exchange.proofs.Formed.{Lends}
 use Rattle.session_state.specs.State.{nextCount}
 use Rattle.session_state.proofs.States.{count-below}
-use Rattle.card.specs.declared.session.CardPhase.{CardPhase}
-use Rattle.card.specs.declared.session.CardPhase.the-variants.{AnswerAlpha, Reply}
-use Rattle.card.specs.declared.session.Card.{Card}
-use Rattle.card.specs.Card as CardCalls
-use Rattle.card.specs.Card.{phaseNumber, openedCard, closedCard, noLent, cardWith, heldLent, heldVectors, committedCard, sentCommitments, answeredCard, sentMiddle, nextCard, repliedCard, sentReply, commitRefusal, alphaRefusal, replyRefusal}
-use Rattle.card.proofs.Taken.{commit-taken, commit-due, alpha-taken, alpha-due, reply-taken, reply-due}
+use Rattle.card_state.specs.declared.session.CardPhase.{CardPhase}
+use Rattle.card_state.specs.declared.session.CardPhase.the-variants.{AnswerAlpha, Reply}
+use Rattle.card_state.specs.declared.session.Card.{Card}
+use Rattle.card_state.specs.Card as CardCalls
+use Rattle.card_state.specs.Card.{phaseNumber, openedCard, closedCard, noLent, cardWith, heldLent, heldVectors, committedCard, sentCommitments, answeredCard, sentMiddle, nextCard, repliedCard, sentReply, commitRefusal, alphaRefusal, replyRefusal}
+use Rattle.card_state.proofs.Taken.{commit-taken, commit-due, alpha-taken, alpha-due, reply-taken, reply-due}
 use Rattle.session.specs.Session.{Opening, Given, Asked, World, put, cardMoves}
 use Rattle.session.proofs.Logs.{Clear, put-there, put-stays, put-clear, clear-next}
 use Rattle.session.proofs.States as St

@@ -22,10 +22,10 @@ use Rattle.record.specs.Record.{Elements}
 use Rattle.session_state.specs.State.{nextCount}
 use Rattle.session_state.specs.declared.Verdict.the-variants.{Accepted}
 use Rattle.session_state.proofs.States.{state-due, due-state, count-below}
-use Rattle.carrier.specs.declared.session.CarrierPhase.{CarrierPhase}
-use Rattle.carrier.specs.declared.session.CarrierPhase.the-variants.{TakeCommitments, SetAlpha, TakeMiddle, SetChallenge, TakeReply}
-use Rattle.carrier.specs.declared.session.Carrier.{Carrier}
-use Rattle.carrier.specs.Carrier.{phaseNumber, closedCarrier, carrierWith, heldMiddle, openedCarrier, commitmentsRefusal, withCommitments, alphaRefusal, withAlpha, middleRefusal, withMiddle, challengeRefusal, withChallenge, replyRefusal, judgedCarrier}
+use Rattle.carrier_state.specs.declared.session.CarrierPhase.{CarrierPhase}
+use Rattle.carrier_state.specs.declared.session.CarrierPhase.the-variants.{TakeCommitments, SetAlpha, TakeMiddle, SetChallenge, TakeReply}
+use Rattle.carrier_state.specs.declared.session.Carrier.{Carrier}
+use Rattle.carrier_state.specs.Carrier.{phaseNumber, closedCarrier, carrierWith, heldMiddle, openedCarrier, commitmentsRefusal, withCommitments, alphaRefusal, withAlpha, middleRefusal, withMiddle, challengeRefusal, withChallenge, replyRefusal, judgedCarrier}
 use Rattle.session.specs.Session.{Opening, Given, Asked, World, put, carrierMoves}
 use Rattle.session.proofs.Logs.{Clear, put-there, put-stays, put-clear, clear-next, given-before}
 use Rattle.session.proofs.CardSide.{by-scheme}

@@ -12,8 +12,8 @@ use Rattle.refusal.proofs.Refusals.{first-zero, later-zero, test-holds, kept-ac
 use Rattle.scheme.specs.Scheme.{isRounds}
 use Rattle.session_state.specs.State.{nextCount}
 use Rattle.session_state.proofs.States.{state-due, count-below}
-use Rattle.carrier.specs.declared.session.Carrier.{Carrier}
-use Rattle.carrier.specs.Carrier.{phaseNumber, carrierWith, closedCarrier, openRefusal, openedCarrier, withCommitments, withAlpha, withMiddle, withChallenge, commitmentsRefusal, alphaRefusal, middleRefusal, challengeRefusal, replyRefusal, acceptsReply, judgedCarrier}
+use Rattle.carrier_state.specs.declared.session.Carrier.{Carrier}
+use Rattle.carrier_state.specs.Carrier.{phaseNumber, carrierWith, closedCarrier, openRefusal, openedCarrier, withCommitments, withAlpha, withMiddle, withChallenge, commitmentsRefusal, alphaRefusal, middleRefusal, challengeRefusal, replyRefusal, acceptsReply, judgedCarrier}
 use Rattle.session.specs.Session.{Opening, Call, commit, answerAlpha, reply, takeCommitments, setAlpha, takeMiddle, setChallenge, takeReply, World, opened, refusal, effect, step, after, acceptedReply, acceptedReplies}
 
 -- an open session has a round left, and at most 255

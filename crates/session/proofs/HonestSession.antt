@@ -14,11 +14,11 @@ use Rattle.scheme.specs.Scheme.{isRounds}
 use Rattle.system.specs.System.{nOf}
 use Rattle.exchange.proofs.Formed.{held-is}
 use Rattle.session_state.specs.declared.Verdict.the-variants.{Accepted}
-use Rattle.card.specs.declared.session.Card.{Card}
-use Rattle.card.specs.Card as CardCalls
-use Rattle.card.proofs.Taken.{open-taken}
-use Rattle.carrier.specs.declared.session.Carrier.{Carrier}
-use Rattle.carrier.specs.Carrier as CarrierCalls
+use Rattle.card_state.specs.declared.session.Card.{Card}
+use Rattle.card_state.specs.Card as CardCalls
+use Rattle.card_state.proofs.Taken.{open-taken}
+use Rattle.carrier_state.specs.declared.session.Carrier.{Carrier}
+use Rattle.carrier_state.specs.Carrier as CarrierCalls
 use Rattle.session.specs.Session.{Opening, Call, commit, answerAlpha, reply, takeCommitments, setAlpha, takeMiddle, setChallenge, takeReply, Given, Asked, World, opened, refusal, effect, step, after, Unaltered, Honest, Due, Accepts, Ended, Holds}
 use Rattle.session.proofs.States as St
 use Rattle.session.proofs.States.{Link, CardState, CarrierState}

@@ -10,9 +10,9 @@ use Rattle.refusal.proofs.Refusals.{both-zero, unless-holds}
 use Rattle.system.specs.System.{mOf}
 use Rattle.system.proofs.SystemLayout.{not-refused, at-all-below}
 use Rattle.scheme.specs.Scheme.{isScheme, isRounds}
-use Rattle.card.specs.Card as CardCalls
-use Rattle.card.proofs.Taken.{open-due}
-use Rattle.carrier.specs.Carrier as CarrierCalls
+use Rattle.card_state.specs.Card as CardCalls
+use Rattle.card_state.proofs.Taken.{open-due}
+use Rattle.carrier_state.specs.Carrier as CarrierCalls
 use Rattle.session.specs.Session.{Opening}
 use Rattle.session.specs.Played.{Openable}
 

@@ -19,16 +19,16 @@ use Rattle.record.specs.Record.{Elements}
 use Rattle.exchange.proofs.Formed.{Lends}
 use Rattle.honest.proofs.Honest.{three-commitments-long, three-reply-long, three-reply-below, middle-long, middle-elements, five-commitments-long, five-reply-long, five-reply-below}
 use Rattle.session_state.specs.declared.Verdict.the-variants.{Accepted}
-use Rattle.card.specs.declared.session.CardPhase.{CardPhase}
-use Rattle.card.specs.declared.session.CardPhase.the-variants.{AnswerAlpha, Reply}
-use Rattle.card.specs.declared.session.Card.{Card}
-use Rattle.card.specs.Card as CardCalls
-use Rattle.card.specs.Card.{committedCard, cardWith, openedCard, answeredCard, heldLent, sentCommitments, sentMiddle, sentReply}
-use Rattle.carrier.specs.declared.session.CarrierPhase.{CarrierPhase}
-use Rattle.carrier.specs.declared.session.CarrierPhase.the-variants.{TakeCommitments, SetAlpha, SetChallenge, TakeReply}
-use Rattle.carrier.specs.declared.session.Carrier.{Carrier}
-use Rattle.carrier.specs.Carrier as CarrierCalls
-use Rattle.carrier.specs.Carrier.{carrierWith, openedCarrier, withAlpha, withMiddle, withChallenge, judgedCarrier}
+use Rattle.card_state.specs.declared.session.CardPhase.{CardPhase}
+use Rattle.card_state.specs.declared.session.CardPhase.the-variants.{AnswerAlpha, Reply}
+use Rattle.card_state.specs.declared.session.Card.{Card}
+use Rattle.card_state.specs.Card as CardCalls
+use Rattle.card_state.specs.Card.{committedCard, cardWith, openedCard, answeredCard, heldLent, sentCommitments, sentMiddle, sentReply}
+use Rattle.carrier_state.specs.declared.session.CarrierPhase.{CarrierPhase}
+use Rattle.carrier_state.specs.declared.session.CarrierPhase.the-variants.{TakeCommitments, SetAlpha, SetChallenge, TakeReply}
+use Rattle.carrier_state.specs.declared.session.Carrier.{Carrier}
+use Rattle.carrier_state.specs.Carrier as CarrierCalls
+use Rattle.carrier_state.specs.Carrier.{carrierWith, openedCarrier, withAlpha, withMiddle, withChallenge, judgedCarrier}
 use Rattle.session.specs.Session.{Opening, Call, Given, Asked, World, opened, refusal, effect, step, after, Unaltered, Honest, Due, Ended, Holds}
 use Rattle.session.specs.Played.{Openable, Draw, Fits, AllFit, fresh, lending, committing, taking, setting, answering, taking-middle, asking, replying, judging, threeCalls, fiveCalls, roundCalls, sessionCalls, Plays}
 use Rattle.session.proofs.States as St

@@ -14,14 +14,14 @@ use Rattle.exchange.specs.Card.{threeVectors, threeCommitted, threeReplied, fiv
 use Rattle.exchange.proofs.Formed.{Lends}
 use Rattle.honest.proofs.Honest.{fiveMiddle, fiveReplied}
 use Rattle.session_state.specs.declared.Verdict.the-variants.{Accepted}
-use Rattle.card.specs.declared.session.CardPhase.{CardPhase}
-use Rattle.card.specs.declared.session.CardPhase.the-variants.{Commit, AnswerAlpha, Reply}
-use Rattle.card.specs.declared.session.Card.{Card}
-use Rattle.card.specs.Card as CardCalls
-use Rattle.carrier.specs.declared.session.CarrierPhase.{CarrierPhase}
-use Rattle.carrier.specs.declared.session.CarrierPhase.the-variants.{TakeCommitments, SetAlpha, TakeMiddle, SetChallenge, TakeReply}
-use Rattle.carrier.specs.declared.session.Carrier.{Carrier}
-use Rattle.carrier.specs.Carrier as CarrierCalls
+use Rattle.card_state.specs.declared.session.CardPhase.{CardPhase}
+use Rattle.card_state.specs.declared.session.CardPhase.the-variants.{Commit, AnswerAlpha, Reply}
+use Rattle.card_state.specs.declared.session.Card.{Card}
+use Rattle.card_state.specs.Card as CardCalls
+use Rattle.carrier_state.specs.declared.session.CarrierPhase.{CarrierPhase}
+use Rattle.carrier_state.specs.declared.session.CarrierPhase.the-variants.{TakeCommitments, SetAlpha, TakeMiddle, SetChallenge, TakeReply}
+use Rattle.carrier_state.specs.declared.session.Carrier.{Carrier}
+use Rattle.carrier_state.specs.Carrier as CarrierCalls
 use Rattle.session.specs.Session.{Opening, Given, Asked, World}
 use Rattle.session.proofs.Logs.{Clear, Stays}
 

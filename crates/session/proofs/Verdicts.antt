@@ -17,8 +17,8 @@ use Rattle.exchange.specs.Messages.{accepts, threeCommitments, fiveCommitments,
 use Rattle.exchange.specs.Card.{threeCommitted, threeReplied, fiveCommitted}
 use Rattle.honest.proofs.Honest.{fiveReplied, honest-three, honest-five, honest-three-held, honest-five-held}
 use Rattle.session_state.proofs.States.{state-due}
-use Rattle.carrier.specs.Carrier.{carrierWith, heldMiddle, openedCarrier, replyRefusal, acceptsReply, judgedCarrier}
-use Rattle.card.specs.Card as CardCalls
+use Rattle.carrier_state.specs.Carrier.{carrierWith, heldMiddle, openedCarrier, replyRefusal, acceptsReply, judgedCarrier}
+use Rattle.card_state.specs.Card as CardCalls
 use Rattle.session.specs.Session.{Opening, Given, Asked, World, Middle, none-sent, sent, carrierMoves}
 use Rattle.session.proofs.Logs.{Clear, same-message, given-before}
 use Rattle.session.proofs.CarrierSide.{ReplyDue, known-at, Known, moved, judged-next, judged-last}

@@ -11,8 +11,8 @@ use Rattle.field.specs.Vector.{held}
 use Rattle.system.specs.System.{qOf, nOf, mOf, WellFormedSystem, F}
 use Rattle.scheme.specs.Scheme.{challenges, commitmentsLength, replyLength}
 use Rattle.record.specs.Record.{Elements}
-use Rattle.card.specs.declared.session.Card.{Card}
-use Rattle.card.specs.Card.{openedCard, committedCard, sentCommitments, sentMiddle, sentReply}
+use Rattle.card_state.specs.declared.session.Card.{Card}
+use Rattle.card_state.specs.Card.{openedCard, committedCard, sentCommitments, sentMiddle, sentReply}
 use Rattle.session.specs.Session.{Opening, Call, commit, answerAlpha, reply, takeCommitments, setAlpha, takeMiddle, setChallenge, takeReply, World, refusal, step, Unaltered}
 
 -- "An opening to which no numbered refusal applies isn't refused.": none of the system's, no 1, 2, 3 or 5

@@ -15,10 +15,10 @@ use Rattle.scheme.specs.Scheme.{challenges, commitmentsLength, vectorsLength, r
 use Rattle.record.specs.Record.{Elements}
 use Rattle.exchange.specs.Messages.{accepts}
 use Rattle.session_state.specs.declared.Verdict.the-variants.{Accepted}
-use Rattle.card.specs.declared.session.Card.{Card}
-use Rattle.card.specs.Card as CardCalls
-use Rattle.carrier.specs.declared.session.Carrier.{Carrier}
-use Rattle.carrier.specs.Carrier as CarrierCalls
+use Rattle.card_state.specs.declared.session.Card.{Card}
+use Rattle.card_state.specs.Card as CardCalls
+use Rattle.carrier_state.specs.declared.session.Carrier.{Carrier}
+use Rattle.carrier_state.specs.Carrier as CarrierCalls
 
 -- what both ends are opened with: "the same system, scheme, N and v, where F(s) = v"
 pub record Opening : Type 0 where

@@ -1,8 +1,8 @@
 // The card's calls: each prints its word, its number and its output's digest.
 use crate::line::say_answer;
 use crate::line::say_digest;
-use card::Card;
-use card::CardAnswer;
+use card_state::Card;
+use card_state::CardAnswer;
 use cases::Head;
 use cases::Outcome;
 use cases::Small;

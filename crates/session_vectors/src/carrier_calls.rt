@@ -1,13 +1,13 @@
 // The carrier's calls: each prints its word and its number, that of a reply also accept or reject.
 use crate::line::say;
 use crate::line::say_answer;
-use carrier::Carrier;
-use carrier::CarrierAnswer;
-use carrier::Judged;
 use carrier::set_alpha;
 use carrier::set_challenge;
 use carrier::take_commitments;
 use carrier::take_middle;
+use carrier_state::Carrier;
+use carrier_state::CarrierAnswer;
+use carrier_state::Judged;
 use cases::Byte;
 use cases::Head;
 use cases::Outcome;

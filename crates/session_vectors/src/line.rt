@@ -1,8 +1,8 @@
 // The parts of a line: a call's word, its number and its output's digest, then both sessions.
-use card::Card;
-use card::CardPhase;
-use carrier::Carrier;
-use carrier::CarrierPhase;
+use card_state::Card;
+use card_state::CardPhase;
+use carrier_state::Carrier;
+use carrier_state::CarrierPhase;
 use hex::append_hex;
 use libc::STDOUT_FILENO;
 use session_state::Verdict;

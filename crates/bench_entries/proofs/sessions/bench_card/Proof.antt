@@ -3,8 +3,8 @@ use Prim.Native.Nat.{ℕ}
 use mathlib.Core.Path.{_≡_, ap, _∙_}
 use lib.ListN.{length}
 use Rattle.refusal.specs.Refusal.{kept}
-use Rattle.card.specs.declared.session.Card.{Card}
-use Rattle.card.specs.Card.{closedCard, openedCard, commitRefusal, committedCard, sentCommitments, alphaRefusal, answeredCard, sentMiddle, replyRefusal, sentReply}
+use Rattle.card_state.specs.declared.session.Card.{Card}
+use Rattle.card_state.specs.Card.{closedCard, openedCard, commitRefusal, committedCard, sentCommitments, alphaRefusal, answeredCard, sentMiddle, replyRefusal, sentReply}
 use Rattle.bench_entries.specs.Bench.{openCard, cardCommitted, cardAnswered}
 use Rattle.bench_entries.proofs.Calls.{put-out, called}
 use borrow.Author.Needs.{needs}

@@ -4,8 +4,8 @@ use mathlib.Core.Path.{_≡_, ap, _∙_}
 use mathlib.Core.Bool.{false}
 use Rattle.refusal.specs.Refusal.{kept}
 use Rattle.session_state.specs.declared.Verdict.the-variants.{None}
-use Rattle.carrier.specs.declared.session.Carrier.{Carrier}
-use Rattle.carrier.specs.Carrier.{closedCarrier, openedCarrier, commitmentsRefusal, withCommitments, alphaRefusal, withAlpha, middleRefusal, withMiddle, challengeRefusal, withChallenge, replyRefusal, acceptsReply}
+use Rattle.carrier_state.specs.declared.session.Carrier.{Carrier}
+use Rattle.carrier_state.specs.Carrier.{closedCarrier, openedCarrier, commitmentsRefusal, withCommitments, alphaRefusal, withAlpha, middleRefusal, withMiddle, challengeRefusal, withChallenge, replyRefusal, acceptsReply}
 use Rattle.bench_entries.specs.Bench.{openCarrier, carrierCommitted, carrierWeighed, carrierTold, carrierAsked}
 use Rattle.bench_entries.proofs.Calls.{put-out, called}
 use borrow.Author.Needs.{needs}

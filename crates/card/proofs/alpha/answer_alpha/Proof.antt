@@ -4,8 +4,8 @@ use Rattle.refusal.specs.Refusal.{kept}
 use Rattle.refusal.proofs.Refusals.{kept-refused}
 use Rattle.system.proofs.SystemLayout.{accepted, has-sizes}
 use Rattle.exchange.specs.Messages.{middleBytes}
-use Rattle.card.specs.Card.{answeredCard, sentMiddle}
-use Rattle.card.proofs.Taken.{alpha-taken}
+use Rattle.card_state.specs.Card.{answeredCard, sentMiddle}
+use Rattle.card_state.proofs.Taken.{alpha-taken}
 use borrow.Author.Needs.{needs}
 use Rattle.card.proofs.alpha.answer_alpha.Statement.{statement}
 use Rattle.card.proofs.alpha.answer_alpha.Tie as tie

@@ -1,8 +1,8 @@
 -- What is refused stays, else the commitments of the scheme are written. Assumes nothing.
 use mathlib.Core.Path.{refl, sym, _∙_}
 use Rattle.refusal.proofs.Refusals.{kept-refused, kept-accepted}
-use Rattle.card.proofs.Taken.{commit-taken}
-use Rattle.card.proofs.Steps.{committed-three, committed-five, sent-three, sent-five, three-commitments, five-commitments}
+use Rattle.card_state.proofs.Taken.{commit-taken}
+use Rattle.card_state.proofs.Steps.{committed-three, committed-five, sent-three, sent-five, three-commitments, five-commitments}
 use borrow.Author.Needs.{needs}
 use Rattle.card.proofs.commitments.commit.Statement.{statement}
 use Rattle.card.proofs.commitments.commit.Tie as tie

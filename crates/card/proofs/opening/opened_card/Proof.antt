@@ -1,6 +1,6 @@
 -- The callees' answers, put together. Assumes nothing.
 use Rattle.slices.specs.Slices.{zeros}
-use Rattle.card.specs.Card.{openedCard}
+use Rattle.card_state.specs.Card.{openedCard}
 use borrow.Author.Needs.{needs}
 use Rattle.card.proofs.opening.opened_card.Statement.{statement}
 use Rattle.card.proofs.opening.opened_card.Tie as tie

@@ -1,6 +1,6 @@
 -- The callees' answers, put together. Assumes nothing.
 use Rattle.slices.specs.Slices.{zeros}
-use Rattle.card.specs.Card.{heldVectors}
+use Rattle.card_state.specs.Card.{heldVectors}
 use borrow.Author.Needs.{needs}
 use Rattle.card.proofs.replies.held_vectors.Statement.{statement}
 use Rattle.card.proofs.replies.held_vectors.Tie as tie

@@ -1,7 +1,7 @@
 -- By whether a round is left. Assumes nothing.
 use borrow.Author.Tests.{lt-ltb, le-ltb}
 use Rattle.slices.specs.Slices.{zeros}
-use Rattle.card.specs.Card.{nextCard, repliedCard}
+use Rattle.card_state.specs.Card.{nextCard, repliedCard}
 use borrow.Author.Needs.{needs}
 use Rattle.card.proofs.replies.replied_card.Statement.{statement}
 use Rattle.card.proofs.replies.replied_card.Tie as tie

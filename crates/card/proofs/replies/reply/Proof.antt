@@ -1,7 +1,7 @@
 -- What is refused stays, else the reply is written and the round forgotten. Assumes nothing.
 use mathlib.Core.Path.{refl, sym, _∙_}
 use Rattle.refusal.proofs.Refusals.{kept-refused, kept-accepted}
-use Rattle.card.proofs.Taken.{reply-taken}
+use Rattle.card_state.proofs.Taken.{reply-taken}
 use borrow.Author.Needs.{needs}
 use Rattle.card.proofs.replies.reply.Statement.{statement}
 use Rattle.card.proofs.replies.reply.Tie as tie

@@ -2,8 +2,8 @@
 use mathlib.Core.Path.{_∙_}
 use borrow.Author.Tests.{ne-eqb}
 use Rattle.system.proofs.SystemLayout.{sizes}
-use Rattle.card.specs.Card.{sentReply}
-use Rattle.card.proofs.Steps.{three-reply, five-reply}
+use Rattle.card_state.specs.Card.{sentReply}
+use Rattle.card_state.proofs.Steps.{three-reply, five-reply}
 use borrow.Author.Needs.{needs}
 use Rattle.card.proofs.replies.write_reply.Statement.{statement}
 use Rattle.card.proofs.replies.write_reply.Tie as tie

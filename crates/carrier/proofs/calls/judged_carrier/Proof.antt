@@ -2,7 +2,7 @@
 use mathlib.Core.Path.{sym}
 use borrow.Author.Tests.{lt-ltb, le-ltb}
 use Rattle.slices.specs.Slices.{zeros}
-use Rattle.carrier.specs.Carrier.{judgedCarrier}
+use Rattle.carrier_state.specs.Carrier.{judgedCarrier}
 use borrow.Author.Needs.{needs}
 use Rattle.carrier.proofs.calls.judged_carrier.Statement.{statement}
 use Rattle.carrier.proofs.calls.judged_carrier.Tie as tie

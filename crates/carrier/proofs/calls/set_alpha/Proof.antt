@@ -1,22 +1,19 @@
 -- The callees' answers, put together. Assumes nothing.
 use mathlib.Core.Path.{ap, _∙_}
 use Rattle.refusal.specs.Refusal.{kept}
-use Rattle.carrier.specs.Carrier.{alphaRefusal, withAlpha}
+use Rattle.carrier_state.specs.Carrier.{withAlpha}
 use borrow.Author.Needs.{needs}
 use Rattle.carrier.proofs.calls.set_alpha.Statement.{statement}
 use Rattle.carrier.proofs.calls.set_alpha.Tie as tie
 
 pub set-alpha-spec : {M : Type 1} → statement M
-unfolding alphaRefusal withAlpha
+unfolding withAlpha
 set-alpha-spec =
     tie.close
     (tie.spec
-    (λ c κs. search needs)
-    (λ c κs. search needs)
-    (λ c κs. search needs)
     (λ c κs. search needs)
     (λ c. search needs)
     (λ c κs. search needs)
     (λ c κs. search needs)
     (λ c κs. search needs)
-    (λ c. (simp (c .answer .ensures .0, c .before .before .before .before .before .first .ensures, c .before .before .before .before .before .before .unless .ensures, c .before .before .before .before .before .before .before .before .state-refusal .ensures, c .before .before .before .before .before .before .before .before .before .phase-number .ensures), c .answer .ensures .1 ∙ ap (kept _ _) (simp (c .before .carrier-with .ensures, c .before .before .held-middle .ensures)))))
+    (λ c. (c .answer .ensures .0 ∙ c .before .before .before .before .before .alpha-refusal .ensures, c .answer .ensures .1 ∙ ap (kept _ _) (simp (c .before .carrier-with .ensures, c .before .before .held-middle .ensures)))))

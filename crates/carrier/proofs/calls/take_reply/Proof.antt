@@ -5,8 +5,8 @@ use mathlib.Core.List.{List}
 use Rattle.refusal.specs.Refusal.{kept}
 use Rattle.refusal.proofs.Refusals.{kept-refused, first-zero, later-zero}
 use Rattle.system.specs.System.{systemRefusal, lentRefusal}
-use Rattle.carrier.specs.declared.session.Carrier.{Carrier}
-use Rattle.carrier.specs.Carrier.{replyRefusal, acceptsReply, judgedCarrier}
+use Rattle.carrier_state.specs.declared.session.Carrier.{Carrier}
+use Rattle.carrier_state.specs.Carrier.{replyRefusal, acceptsReply, judgedCarrier}
 use borrow.Author.Needs.{needs}
 use Rattle.carrier.proofs.calls.take_reply.Statement.{statement}
 use Rattle.carrier.proofs.calls.take_reply.Tie as tie

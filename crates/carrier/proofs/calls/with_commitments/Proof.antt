@@ -1,7 +1,7 @@
 -- By cases on the scheme. Assumes nothing.
 use borrow.Author.Tests.{ne-eqb}
 use Rattle.slices.specs.Slices.{zeros}
-use Rattle.carrier.specs.Carrier.{withCommitments}
+use Rattle.carrier_state.specs.Carrier.{withCommitments}
 use borrow.Author.Needs.{needs}
 use Rattle.carrier.proofs.calls.with_commitments.Statement.{statement}
 use Rattle.carrier.proofs.calls.with_commitments.Tie as tie

@@ -1,6 +1,6 @@
 -- The callees' answers, put together. Assumes nothing.
 use Rattle.slices.specs.Slices.{zeros}
-use Rattle.carrier.specs.Carrier.{openedCarrier}
+use Rattle.carrier_state.specs.Carrier.{openedCarrier}
 use borrow.Author.Needs.{needs}
 use Rattle.carrier.proofs.opening.opened_carrier.Statement.{statement}
 use Rattle.carrier.proofs.opening.opened_carrier.Tie as tie

@@ -1,0 +1,53 @@
+-- A card's session is closed only by its last reply or by a refused opening, and a closed one is zero. Assumes nothing.
+use Prim.Native.Nat.{ℕ, _≤_, _<_}
+use mathlib.Core.Path.{_≡_, refl}
+use mathlib.Core.Bool.{Bool, true, false, cond}
+use mathlib.Core.List.{List, _++_, _∷_, []}
+use native.Mathlib.Omega.{arith}
+use lib.Dec.{eqb}
+use borrow.Author.Tests.{lt-ltb, le-ltb}
+use Rattle.slices.specs.Slices.{zeros}
+use Rattle.session_state.specs.State.{nextCount}
+use Rattle.card_state.specs.declared.session.CardPhase.the-variants.{AnswerAlpha, Reply}
+use Rattle.card_state.specs.declared.session.Card.{Card}
+use Rattle.card_state.specs.Card.{phaseNumber, closedCard, cardWith, openedCard, committedCard, answeredCard, nextCard, repliedCard}
+
+-- the session is not closed
+abbrev pub Open : Card → Type 0
+Open card = phaseNumber (card .phase) ≡ 0 → ⊥
+
+pub opened-open : (b : List ℕ) (scheme rounds : ℕ) (s : List ℕ) → Open (openedCard b scheme rounds s)
+unfolding openedCard phaseNumber
+opened-open b scheme rounds s e = absurd (omega arith)
+
+pub committed-open : (card : Card) (b lent : List ℕ) → Open (committedCard card b lent)
+unfolding committedCard cardWith phaseNumber
+committed-open card b lent = go (eqb (card .scheme) 3)
+  where
+    go : (t : Bool) → phaseNumber (cond t Reply AnswerAlpha) ≡ 0 → ⊥
+    go true e = absurd (omega arith)
+    go false e = absurd (omega arith)
+
+pub answered-open : (card : Card) → Open (answeredCard card)
+unfolding answeredCard cardWith phaseNumber
+answered-open card e = absurd (omega arith)
+
+-- a reply before the last leaves it open, and the last closes it
+pub replied-open : (card : Card) → nextCount (card .round) < card .rounds → Open (repliedCard card)
+unfolding repliedCard nextCard cardWith phaseNumber
+replied-open card more e = absurd (omega (arith, simp (lt-ltb (nextCount (card .round)) (card .rounds) more) at e))
+
+pub last-closes : (card : Card) → card .rounds ≤ nextCount (card .round) → repliedCard card ≡ closedCard
+unfolding repliedCard
+last-closes card last = simp (le-ltb (nextCount (card .round)) (card .rounds) last)
+
+-- every number of a card, one behind the other
+unfoldable pub numbers : Card → List ℕ
+numbers card =
+    (phaseNumber (card .phase) ∷ card .scheme ∷ card .q ∷ card .n ∷ card .m ∷ card .rounds ∷ card .round ∷ []) ++ card .s ++ card .r0 ++ card .t0 ++ card .e0 ++
+    card .e1 ++ card .rho0 ++ card .rho1 ++ card .rho2
+
+-- "every number in it is zero"
+pub closed-zero : numbers closedCard ≡ zeros 583
+unfolding numbers closedCard phaseNumber zeros
+closed-zero = refl

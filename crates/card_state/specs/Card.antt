@@ -1,0 +1,198 @@
+-- Document 01, "Sessions": the card's session, its calls' refusals, what they make of the session and what they send.
+use Prim.Native.Nat.{ℕ, _+_}
+use mathlib.Core.Bool.{cond}
+use mathlib.Core.List.{List}
+use lib.Dec.{ltb, eqb}
+use lib.ListN.{length, take}
+use Rattle.slices.specs.Slices.{same, zeros}
+use Rattle.refusal.specs.Refusal.{unless, _orElse_}
+use Rattle.field.specs.Ops.{ops}
+use Rattle.field.specs.Vector.{held, subV, allBelow}
+use Rattle.system.specs.System.{qOf, nOf, mOf, areSizes, systemRefusal, lentRefusal, F}
+use Rattle.scheme.specs.Scheme.{isScheme, isRounds, challenges, commitmentsLength, replyLength}
+use Rattle.protocol.specs.Protocols as P
+use Rattle.protocol.specs.Protocols.{t1By, e1By}
+use Rattle.protocol.specs.Rounds.{mapOf}
+use Rattle.round.specs.ThreePass.{replyThree}
+use Rattle.round.specs.FivePass.{replyFive}
+use Rattle.exchange.specs.declared.read.Lent.{Lent}
+use Rattle.exchange.specs.Messages.{lentIn, threeCommitments, fiveCommitments, middleBytes, replyThreeBytes, replyFiveBytes}
+use Rattle.exchange.specs.Card.{threeVectors, threeCommitted, fiveCommitted}
+use Rattle.session_state.specs.declared.Verdict.the-variants.{None}
+use Rattle.session_state.specs.State.{stateRefusal, nextCount}
+use Rattle.card_state.specs.declared.session.CardPhase.{CardPhase}
+use Rattle.card_state.specs.declared.session.CardPhase.the-variants.{Commit, AnswerAlpha, Reply, Closed}
+use Rattle.card_state.specs.declared.session.Card.{Card}
+
+-- the due call by number, 0 for a closed session
+unfoldable pub phaseNumber : CardPhase → ℕ
+phaseNumber (Closed verdict) = 0
+phaseNumber Commit = 1
+phaseNumber AnswerAlpha = 2
+phaseNumber Reply = 3
+
+-- "After round N the card's session is closed and every number in it is zero."; "a refused opening gives a closed session of zeros, its verdict \"none\""
+unfoldable pub closedCard : Card
+closedCard =
+    record {
+      phase = Closed None;
+      scheme = 0;
+      q = 0;
+      n = 0;
+      m = 0;
+      rounds = 0;
+      round = 0;
+      s = zeros 96;
+      r0 = zeros 96;
+      t0 = zeros 96;
+      e0 = zeros 96;
+      e1 = zeros 96;
+      rho0 = zeros 32;
+      rho1 = zeros 32;
+      rho2 = zeros 32;
+    }
+
+-- nothing lent
+unfoldable pub noLent : Lent
+noLent = record { r0 = zeros 96; t0 = zeros 96; e0 = zeros 96; rhos = record { rho0 = zeros 32; rho1 = zeros 32; rho2 = zeros 32 } }
+
+-- the same session in another phase and round, with what is lent for it
+unfoldable pub cardWith : Card → CardPhase → ℕ → Lent → List ℕ → Card
+cardWith card phase round l e1 =
+    record {
+      phase = phase;
+      scheme = card .scheme;
+      q = card .q;
+      n = card .n;
+      m = card .m;
+      rounds = card .rounds;
+      round = round;
+      s = card .s;
+      r0 = l .r0;
+      t0 = l .t0;
+      e0 = l .e0;
+      e1 = e1;
+      rho0 = l .rhos .rho0;
+      rho1 = l .rhos .rho1;
+      rho2 = l .rhos .rho2;
+    }
+
+-- ---- open(system, scheme, N, v, s)
+
+-- "the system ..; then arguments left to right, all 1, all 2, all 3, then 4"
+unfoldable pub openForm : List ℕ → ℕ → ℕ → List ℕ → List ℕ → ℕ
+openForm b scheme rounds v s =
+    systemRefusal b orElse
+    unless (isScheme scheme) 1 orElse
+    unless (isRounds rounds) 1 orElse
+    unless (eqb (length v) (mOf b)) 2 orElse
+    unless (eqb (length s) (nOf b)) 2 orElse
+    unless (allBelow (qOf b) v) 3 orElse
+    unless (allBelow (qOf b) s) 3
+
+-- "5 F(s) ≠ v when a card is opened"
+unfoldable pub openRefusal : List ℕ → ℕ → ℕ → List ℕ → List ℕ → ℕ
+openRefusal b scheme rounds v s = openForm b scheme rounds v s orElse unless (same (F b (held s)) (held v)) 5
+
+-- a card in its first round, nothing lent yet
+unfoldable pub openedCard : List ℕ → ℕ → ℕ → List ℕ → Card
+openedCard b scheme rounds s =
+    record {
+      phase = Commit;
+      scheme = scheme;
+      q = qOf b;
+      n = nOf b;
+      m = mOf b;
+      rounds = rounds;
+      round = 0;
+      s = held s;
+      r0 = zeros 96;
+      t0 = zeros 96;
+      e0 = zeros 96;
+      e1 = zeros 96;
+      rho0 = zeros 32;
+      rho1 = zeros 32;
+      rho2 = zeros 32;
+    }
+
+-- ---- commit(system, lent, out)
+
+-- "11, 10; then the system, then 7 against a session; then arguments left to right, all 1, all 2, all 3"
+unfoldable pub commitRefusal : Card → List ℕ → List ℕ → ℕ → ℕ
+commitRefusal card b lent out =
+    let vectors = card .n + card .n + card .m in
+    stateRefusal (phaseNumber (card .phase)) 1 orElse
+    lentRefusal b (card .q) (card .n) (card .m) orElse
+    unless (eqb (length lent) (vectors + commitmentsLength (card .scheme))) 2 orElse
+    unless (eqb out (commitmentsLength (card .scheme))) 2 orElse
+    unless (allBelow (card .q) (take vectors lent)) 3
+
+-- what is lent is kept; e1 of three passes too, since the system is not lent again for the reply
+unfoldable pub committedCard : Card → List ℕ → List ℕ → Card
+committedCard card b lent =
+    cardWith card (cond (eqb (card .scheme) 3) Reply AnswerAlpha) (card .round) (lentIn (nOf b) (mOf b) lent)
+    (cond (eqb (card .scheme) 3) (threeVectors b (card .s) lent .e1) (zeros 96))
+
+-- the commitments that are sent
+unfoldable pub sentCommitments : Card → List ℕ → List ℕ → List ℕ
+sentCommitments card b lent =
+    cond (eqb (card .scheme) 3) (threeCommitments (threeCommitted b (card .s) lent)) (fiveCommitments (fiveCommitted b (card .s) lent))
+
+-- ---- reply to α (system, α, out)
+
+unfoldable pub alphaRefusal : Card → List ℕ → ℕ → ℕ → ℕ
+alphaRefusal card b α out =
+    stateRefusal (phaseNumber (card .phase)) 2 orElse
+    lentRefusal b (card .q) (card .n) (card .m) orElse
+    unless (eqb out (card .n + card .m)) 2 orElse
+    unless (ltb α (card .q)) 3
+
+-- what is lent for the round, as the card holds it
+unfoldable pub heldLent : Card → Lent
+heldLent card =
+    record { r0 = card .r0; t0 = card .t0; e0 = card .e0; rhos = record { rho0 = card .rho0; rho1 = card .rho1; rho2 = card .rho2 } }
+
+-- a card that has answered α
+unfoldable pub answeredCard : Card → Card
+answeredCard card = cardWith card Reply (card .round) (heldLent card) (card .e1)
+
+-- "The card sends t1 = αr0 - t0, then e1 = αF(r0) - e0."
+unfoldable pub sentMiddle : Card → List ℕ → ℕ → List ℕ
+sentMiddle card b α = middleBytes (nOf b) (mOf b) (record { t1 = t1By (mapOf b) α (card .r0) (card .t0); e1 = e1By (mapOf b) α (card .r0) (card .e0) })
+
+-- ---- reply(challenge, out)
+
+-- 1 for a q, n or m that no opening gives a session
+unfoldable pub replyRefusal : Card → ℕ → ℕ → ℕ
+replyRefusal card challenge out =
+    stateRefusal (phaseNumber (card .phase)) 3 orElse
+    unless (areSizes (card .q) (card .n) (card .m)) 1 orElse
+    unless (eqb out (replyLength (card .scheme) (card .n) (card .m))) 2 orElse
+    unless (ltb challenge (challenges (card .scheme))) 4
+
+-- a card in its next round: "A reply zeroes that round's vectors and ρ."
+unfoldable pub nextCard : Card → Card
+nextCard card = cardWith card Commit (nextCount (card .round)) noLent (zeros 96)
+
+-- "After round N the card's session is closed"
+unfoldable pub repliedCard : Card → Card
+repliedCard card = cond (ltb (nextCount (card .round)) (card .rounds)) (nextCard card) closedCard
+
+-- the vectors of a three-pass round as the card holds them; the reply opens none with the mask
+unfoldable pub heldVectors : Card → P.Vectors (List ℕ) (List ℕ)
+heldVectors card =
+    record {
+      r0 = card .r0;
+      r1 = subV (ops (card .q)) (card .n) (card .s) (card .r0);
+      t0 = card .t0;
+      t1 = subV (ops (card .q)) (card .n) (card .r0) (card .t0);
+      e0 = card .e0;
+      e1 = card .e1;
+      mask = zeros 96;
+    }
+
+-- the reply that is sent
+unfoldable pub sentReply : Card → ℕ → List ℕ
+sentReply card challenge =
+    cond (eqb (card .scheme) 3) (replyThreeBytes (card .n) (card .m) (replyThree (heldVectors card) (heldLent card .rhos) challenge))
+    (replyFiveBytes (card .n) (replyFive (card .q) (card .n) (card .s) (card .r0) (heldLent card .rhos) challenge))

@@ -1,0 +1,13 @@
+-- The record of what was given. Assumes nothing.
+use mathlib.Core.Path.{refl}
+use Rattle.slices.specs.Slices.{zeros}
+use Rattle.carrier_state.specs.Carrier.{closedCarrier}
+use Rattle.carrier_state.proofs.session.closed_carrier.Statement.{statement}
+use Rattle.carrier_state.proofs.session.closed_carrier.Tie as tie
+
+pub closed-carrier-spec : {M : Type 1} → statement M
+unfolding closedCarrier zeros
+closed-carrier-spec =
+    tie.close
+    (tie.spec
+    (λ c. refl))
