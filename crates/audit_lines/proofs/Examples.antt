@@ -1,7 +1,8 @@
 -- Texts of audits, as antt computes them. Assumes nothing.
 use mathlib.Core.Path.{_≡_, refl}
 use mathlib.Core.List.{[], _∷_}
-use Rattle.report_lines.specs.ReportLines.{lastDigit, decimal, numbered, roundWord, refusedWord, lineFeed, refusedLine}
+use Rattle.text.specs.Text.{lastDigit, decimal, numbered, lineFeed}
+use Rattle.report_lines.specs.ReportLines.{roundWord, refusedWord, refusedLine}
 use Rattle.hex.specs.Hex.{hexDigit, hexByte, hex}
 use Rattle.auditing.specs.Outcome.{secret, clash, refused}
 use Rattle.audit_lines.specs.AuditLines.{secretWord, clashWord, firstWord, secondWord, rejectedWord, inRoundWord, hexLine, clashLines, rejectedLine, refusalLine, auditText}

@@ -5,7 +5,7 @@ use mathlib.Core.List.{List}
 use native.Mathlib.Omega.{arith}
 use lib.ListN.{length, take, drop, length-take}
 use Rattle.slices.specs.Slices.{placed}
-use Rattle.report_lines.proofs.Appending.{Appended}
+use Rattle.text.proofs.Appending.{Appended}
 use Rattle.auditing.specs.declared.Finding.{Finding}
 use Rattle.auditing.specs.declared.Finding.the-variants.{Secret, Clash, Refused}
 use Rattle.auditing.specs.declared.Audited.{Audited}

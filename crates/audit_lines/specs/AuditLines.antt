@@ -5,7 +5,8 @@ use mathlib.Core.List.{List, [], _∷_, _++_}
 use lib.Dec.{eqb}
 use lib.ListN.{take}
 use Rattle.hex.specs.Hex.{hex}
-use Rattle.report_lines.specs.ReportLines.{numbered, roundWord, lineFeed, refusedLine}
+use Rattle.text.specs.Text.{numbered, lineFeed}
+use Rattle.report_lines.specs.ReportLines.{roundWord, refusedLine}
 use Rattle.auditing.specs.Outcome.{Outcome, secret, clash, refused}
 
 -- ---- words

@@ -14,7 +14,8 @@ use Rattle.comparable.specs.Comparable.{frontRefusal, rejectionOf}
 use Rattle.full_set.specs.FullSet.{firstFull}
 use Rattle.clash.specs.Clash.{firstClash}
 use Rattle.record.specs.Reader.{headerIn}
-use Rattle.report_lines.specs.ReportLines.{verdictStart, refusedWord, numbered, verdictLine, refusedLine}
+use Rattle.text.specs.Text.{numbered}
+use Rattle.report_lines.specs.ReportLines.{verdictStart, refusedWord, verdictLine, refusedLine}
 use Rattle.reporting.specs.Report.{systemPart, recordPart, reportRefusal, roundLines, judgedText, reportText}
 use Rattle.auditing.specs.Outcome.{Outcome, secret, clash, refused, clashed, answerOf}
 use Rattle.auditing.specs.Audit.{clashAt, secretAt, findingAt, searchOf, auditOf}

@@ -1,7 +1,7 @@
 // The refusals of the card's calls, in document 01's order: 11, 10; the system's, 7; 1, 2, 3, 4, 5.
 use crate::session::Card;
 use crate::session::phase_number;
-use evaluation::f;
+use polynomials::f;
 use field::all_below;
 use field::from_slice;
 use refusal::first;

@@ -10,7 +10,7 @@ use Rattle.refusal.proofs.Refusals.{first-zero, later-zero, equal-holds}
 use Rattle.field.specs.Vector.{vector}
 use Rattle.system.specs.System.{nOf, mOf, systemRefusal, F, G}
 use Rattle.evaluation.specs.Entry.{evaluateRefusal, polarRefusal}
-use Rattle.evaluation.proofs.Laws.{F-held, G-held}
+use Rattle.polynomials.proofs.Laws.{F-held, G-held}
 use Rattle.system.proofs.SystemLayout.{accepted}
 
 -- ---- evaluate

@@ -1,6 +1,2 @@
--- F and G: the laws of their forms, and how the code's one pass meets them.
+-- What the entries write where nothing is refused.
 pub mod Entries
-pub mod Evaluation
-pub mod Forms
-pub mod Laws
-pub mod Triangle

@@ -1,4 +1,2 @@
 -- What the contracts of this crate cite.
 pub mod Entry
-pub mod Monomials
-pub mod Polar

@@ -1,6 +1,6 @@
-// Bytes as hexadecimal digits in a lent text, put from a place on. As in `report_lines`, each function answers the place behind
+// Bytes as hexadecimal digits in a lent text, put from a place on. As in `text`, each function answers the place behind
 // what it put, and whoever calls lends the room.
-use report_lines::append;
+use text::append;
 ghost use mathlib.Core.Path.{_≡_};
 ghost use Prim.Native.Nat.{_+_, _*_, _≤_, _<_};
 ghost use lib.ListN.{length};

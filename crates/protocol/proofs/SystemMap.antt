@@ -13,8 +13,8 @@ use Rattle.field.proofs.Fields.{field}
 use Rattle.field.proofs.Sums.{add-mul, sub-of}
 use Rattle.field.proofs.Vectors.{vector-at, vector-beyond, vector-cong}
 use Rattle.system.specs.System.{qOf, nOf, mOf, opsOf, quadratic, linear, F}
-use Rattle.evaluation.proofs.Forms.{polynomial-below}
-use Rattle.evaluation.proofs.Laws.{F-add, G-add-left, G-mul}
+use Rattle.polynomials.proofs.Forms.{polynomial-below}
+use Rattle.polynomials.proofs.Laws.{F-add, G-add-left, G-mul}
 use Rattle.protocol.specs.Structure.{AbelianGroup, QuadraticMap}
 use Rattle.protocol.specs.Rounds.{mapOf, IsX, IsY, IsScalar}
 

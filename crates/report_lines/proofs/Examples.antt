@@ -2,7 +2,8 @@
 use mathlib.Core.Path.{_≡_, refl}
 use mathlib.Core.Bool.{true, false}
 use mathlib.Core.List.{[], _∷_}
-use Rattle.report_lines.specs.ReportLines.{lastDigit, decimal, numbered, roundWord, challengeWord, spaceWord, acceptWord, rejectWord, verdictStart, ofWord, refusedWord, lineFeed, verdictWord, roundLine, verdictLine, refusedLine}
+use Rattle.text.specs.Text.{lastDigit, decimal, numbered, lineFeed}
+use Rattle.report_lines.specs.ReportLines.{roundWord, challengeWord, spaceWord, acceptWord, rejectWord, verdictStart, ofWord, refusedWord, verdictWord, roundLine, verdictLine, refusedLine}
 
 -- round 1 challenge 2 accept
 pub worked-round : roundLine 1 2 true ≡ 114 ∷ 111 ∷ 117 ∷ 110 ∷ 100 ∷ 32 ∷ 49 ∷ 32 ∷ 99 ∷ 104 ∷ 97 ∷ 108 ∷ 108 ∷ 101 ∷ 110 ∷ 103 ∷ 101 ∷ 32 ∷ 50 ∷ 32 ∷ 97 ∷ 99 ∷ 99 ∷ 101 ∷ 112 ∷ 116 ∷ 10 ∷ []

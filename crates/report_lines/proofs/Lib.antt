@@ -1,4 +1,2 @@
--- Laws of decimal digits and of lines in a row, and worked lines.
-pub mod Decimal
+-- Worked lines.
 pub mod Examples
-pub mod Appending

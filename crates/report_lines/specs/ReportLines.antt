@@ -1,21 +1,9 @@
 -- Document 01, "Report program": the lines of the report as bytes, ASCII codes.
-use Prim.Native.Nat.{ℕ, _+_, _/_, _%_}
+use Prim.Native.Nat.{ℕ}
 use mathlib.Core.Bool.{Bool, cond}
 use mathlib.Core.List.{List, [], _∷_, _++_}
-use lib.Dec.{eqb, ltb}
-
--- ---- numbers
-
--- a number's last digit
-unfoldable pub lastDigit : ℕ → ℕ
-lastDigit k = 48 + k % 10
-
--- a number below 1000, with no zero before its first digit
-unfoldable pub decimal : ℕ → List ℕ
-decimal k =
-    cond (ltb k 10) (lastDigit k ∷ [])
-    (cond (ltb k 100) (lastDigit (k / 10) ∷ lastDigit k ∷ [])
-    (lastDigit (k / 100) ∷ lastDigit (k / 10) ∷ lastDigit k ∷ []))
+use lib.Dec.{eqb}
+use Rattle.text.specs.Text.{numbered, lineFeed}
 
 -- ---- words
 
@@ -51,19 +39,11 @@ ofWord = 32 ∷ 111 ∷ 102 ∷ 32 ∷ []
 unfoldable pub refusedWord : List ℕ
 refusedWord = 114 ∷ 101 ∷ 102 ∷ 117 ∷ 115 ∷ 101 ∷ 100 ∷ 32 ∷ []
 
--- "each ended by a line feed"
-unfoldable pub lineFeed : List ℕ
-lineFeed = 10 ∷ []
-
 -- "accept or reject"
 unfoldable pub verdictWord : Bool → List ℕ
 verdictWord accepted = cond accepted acceptWord rejectWord
 
 -- ---- lines
-
--- a word and a number behind it
-unfoldable pub numbered : List ℕ → ℕ → List ℕ
-numbered word k = word ++ decimal k
 
 -- "Fields: round from 1, challenge (scheme 5 the same, α not shown), accept or reject": `round 1 challenge 2 accept`
 unfoldable pub roundLine : ℕ → ℕ → Bool → List ℕ

@@ -1,8 +1,8 @@
 // The vectors of a round as the card and the simulator form them.
 use crate::pieces::Middle;
 use crate::pieces::Vectors;
-use evaluation::f;
-use evaluation::g;
+use polynomials::f;
+use polynomials::g;
 use field::add_vectors;
 use field::mul_vector;
 use field::sub_vectors;

@@ -1,7 +1,7 @@
 -- The number's line, then a line for each string. Assumes nothing.
 use native.Mathlib.Omega.{arith}
-use Rattle.report_lines.specs.ReportLines.{lineFeed}
-use Rattle.report_lines.proofs.Appending.{appended-both}
+use Rattle.text.specs.Text.{lineFeed}
+use Rattle.text.proofs.Appending.{appended-both}
 use Rattle.audit_lines.specs.AuditLines.{clashWord, firstWord, secondWord, clashLines}
 use Rattle.audit_lines.proofs.Front.{at-front}
 use borrow.Author.Needs.{needs}

@@ -1,7 +1,7 @@
 -- Word, digits and line feed, each behind the last. Assumes nothing.
 use native.Mathlib.Omega.{arith}
-use Rattle.report_lines.specs.ReportLines.{lineFeed}
-use Rattle.report_lines.proofs.Appending.{appended-both}
+use Rattle.text.specs.Text.{lineFeed}
+use Rattle.text.proofs.Appending.{appended-both}
 use Rattle.audit_lines.specs.AuditLines.{hexLine}
 use borrow.Author.Needs.{needs}
 use Rattle.audit_lines.proofs.hex_line.Statement.{statement}

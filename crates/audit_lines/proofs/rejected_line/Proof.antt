@@ -1,7 +1,8 @@
 -- Numbers and line feed. Assumes nothing.
 use native.Mathlib.Omega.{arith}
-use Rattle.report_lines.specs.ReportLines.{roundWord, lineFeed}
-use Rattle.report_lines.proofs.Appending.{appended-both}
+use Rattle.text.specs.Text.{lineFeed}
+use Rattle.report_lines.specs.ReportLines.{roundWord}
+use Rattle.text.proofs.Appending.{appended-both}
 use Rattle.audit_lines.specs.AuditLines.{rejectedWord, inRoundWord, rejectedLine}
 use Rattle.audit_lines.proofs.Front.{at-front}
 use borrow.Author.Needs.{needs}

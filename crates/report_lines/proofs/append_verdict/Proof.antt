@@ -1,7 +1,7 @@
 -- The verdict behind the word, by cases. Assumes nothing.
 use native.Mathlib.Omega.{arith}
 use Rattle.report_lines.specs.ReportLines.{acceptWord, rejectWord, verdictWord}
-use Rattle.report_lines.proofs.Appending.{appended-both}
+use Rattle.text.proofs.Appending.{appended-both}
 use borrow.Author.Needs.{needs}
 use Rattle.report_lines.proofs.append_verdict.Statement.{statement}
 use Rattle.report_lines.proofs.append_verdict.Tie as tie

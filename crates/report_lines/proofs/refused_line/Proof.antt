@@ -1,7 +1,8 @@
 -- Each piece behind the last. Assumes nothing.
 use native.Mathlib.Omega.{arith}
-use Rattle.report_lines.specs.ReportLines.{refusedWord, lineFeed, refusedLine}
-use Rattle.report_lines.proofs.Appending.{appended-both}
+use Rattle.text.specs.Text.{lineFeed}
+use Rattle.report_lines.specs.ReportLines.{refusedWord, refusedLine}
+use Rattle.text.proofs.Appending.{appended-both}
 use borrow.Author.Needs.{needs}
 use Rattle.report_lines.proofs.refused_line.Statement.{statement}
 use Rattle.report_lines.proofs.refused_line.Tie as tie

@@ -1,7 +1,8 @@
 -- Numbers, verdict and line feed, each behind the last. Assumes nothing.
 use native.Mathlib.Omega.{arith}
-use Rattle.report_lines.specs.ReportLines.{roundWord, challengeWord, spaceWord, lineFeed, roundLine}
-use Rattle.report_lines.proofs.Appending.{appended-line}
+use Rattle.text.specs.Text.{lineFeed}
+use Rattle.report_lines.specs.ReportLines.{roundWord, challengeWord, spaceWord, roundLine}
+use Rattle.text.proofs.Appending.{appended-line}
 use borrow.Author.Needs.{needs}
 use Rattle.report_lines.proofs.round_line.Statement.{statement}
 use Rattle.report_lines.proofs.round_line.Tie as tie

@@ -1,7 +1,8 @@
 -- Verdict, numbers and line feed, each behind the last. Assumes nothing.
 use native.Mathlib.Omega.{arith}
-use Rattle.report_lines.specs.ReportLines.{verdictStart, spaceWord, ofWord, lineFeed, verdictLine}
-use Rattle.report_lines.proofs.Appending.{appended-line}
+use Rattle.text.specs.Text.{lineFeed}
+use Rattle.report_lines.specs.ReportLines.{verdictStart, spaceWord, ofWord, verdictLine}
+use Rattle.text.proofs.Appending.{appended-line}
 use borrow.Author.Needs.{needs}
 use Rattle.report_lines.proofs.verdict_line.Statement.{statement}
 use Rattle.report_lines.proofs.verdict_line.Tie as tie

@@ -1,0 +1,25 @@
+-- The callees' answers, put together. Assumes nothing.
+use Rattle.evaluation.specs.Entry.{evaluateRefusal}
+use borrow.Author.Needs.{needs}
+use Rattle.evaluation.proofs.evaluate_refusal.Statement.{statement}
+use Rattle.evaluation.proofs.evaluate_refusal.Tie as tie
+
+pub evaluate-refusal-spec : {M : Type 1} → statement M
+unfolding evaluateRefusal
+evaluate-refusal-spec =
+    tie.close
+    (tie.spec
+    (λ c κs. search needs)
+    (λ c κs. search needs)
+    (λ c. search needs)
+    (λ c κs. search needs)
+    (λ c. search needs)
+    (λ c κs. search needs)
+    (λ c κs. search needs)
+    (λ c κs. search needs)
+    (λ c κs. search needs)
+    (λ c κs. search needs)
+    (λ c κs. search needs)
+    (λ c κs. search needs)
+    (λ c κs. search needs)
+    (λ c. simp (c .first3 .ensures, c .before .first2 .ensures, c .before .before .unless3 .ensures, c .before .before .before .all-below .ensures, c .before .before .before .before .check .ensures, c .before .before .before .before .before .first .ensures, c .before .before .before .before .before .before .unless2 .ensures, c .before .before .before .before .before .before .before .unless .ensures, c .before .before .before .before .before .before .before .before .byte-at3 .ensures, c .before .before .before .before .before .before .before .before .before .byte-at2 .ensures, c .before .before .before .before .before .before .before .before .before .before .byte-at .ensures)))

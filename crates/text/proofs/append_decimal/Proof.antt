@@ -1,0 +1,35 @@
+-- By cases on the number of digits. Assumes nothing.
+use mathlib.Core.Path.{sym}
+use native.Mathlib.Omega.{arith}
+use borrow.Author.Tests.{lt-ltb, le-ltb}
+use Rattle.text.specs.Text.{decimal}
+use borrow.Author.Needs.{needs}
+use Rattle.text.proofs.append_decimal.Statement.{statement}
+use Rattle.text.proofs.append_decimal.Tie as tie
+
+pub append-decimal-spec : {M : Type 1} → statement M
+unfolding decimal
+append-decimal-spec =
+    tie.close
+    (tie.spec
+    (λ c κs. search needs)
+    (λ c. search needs)
+    (λ c κs. search needs)
+    (λ c. search needs)
+    (λ c.
+    let put = c .before .before .append .ensures in
+    simp (lt-ltb _ _ (c .before .before .before .before .before .if1 .taken), sym (c .before .before .before .before .before .before .last-digit .ensures)) (put .0, put .1, omega arith))
+    (λ c κs. search needs)
+    (λ c. search needs)
+    (λ c κs. search needs)
+    (λ c. search needs)
+    (λ c.
+    let put = c .before .before .append2 .ensures in
+    simp (le-ltb _ _ (c .before .before .before .before .before .before .before .if1 .left), lt-ltb _ _ (c .before .before .before .before .before .if2 .taken), sym (c .before .before .before .before .before .before .last-digit2 .ensures), sym (c .before .before .before .before .before .before .before .before .last-digit .ensures)) (put .0, put .1, omega arith))
+    (λ c κs. search needs)
+    (λ c. search needs)
+    (λ c κs. search needs)
+    (λ c. search needs)
+    (λ c.
+    let put = c .before .before .append3 .ensures in
+    simp (le-ltb _ _ (c .before .before .before .before .before .before .before .before .if1 .left), le-ltb _ _ (c .before .before .before .before .before .before .if2 .left), sym (c .before .before .before .before .last-digit3 .ensures), sym (c .before .before .before .before .before .before .before .last-digit2 .ensures), sym (c .before .before .before .before .before .before .before .before .before .last-digit .ensures)) (put .0, put .1, omega arith)))
