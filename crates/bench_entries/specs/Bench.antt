@@ -2,7 +2,7 @@
 use Prim.Native.Nat.{ℕ}
 use mathlib.Core.List.{List}
 use Rattle.refusal.specs.Refusal.{kept}
-use Rattle.record.specs.declared.layout.Header.{Header}
+use Rattle.record_form.specs.declared.layout.Header.{Header}
 use Rattle.session_state.specs.declared.Verdict.the-variants.{None}
 use Rattle.card_state.specs.declared.session.Card.{Card}
 use Rattle.card_state.specs.Card as C

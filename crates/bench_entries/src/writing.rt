@@ -1,9 +1,9 @@
 // The writer of records, with the header's values one by one.
-use record::Header;
+use record_form::Header;
 ghost use mathlib.Core.Path.{_≡_};
 ghost use lib.ListN.{length};
 ghost use Rattle.refusal.specs.Refusal.{kept};
-ghost use Rattle.record.specs.Record.{written};
+ghost use Rattle.record_form.specs.Record.{written};
 ghost use Rattle.record_writer.specs.Writer.{fieldsOf, writeRefusal};
 ghost use Rattle.bench_entries.specs.Bench.{headerOf};
 

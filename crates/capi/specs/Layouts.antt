@@ -4,8 +4,8 @@ use mathlib.Core.List.{List, [], _∷_, _++_}
 use lib.Dec.{eqb}
 use Rattle.refusal.specs.Refusal.{unless, _orElse_}
 use Rattle.system.specs.System.{systemRefusal}
-use Rattle.record.specs.declared.layout.Layout.{Layout}
-use Rattle.record.specs.Record.{entry}
+use Rattle.record_form.specs.declared.layout.Layout.{Layout}
+use Rattle.record_form.specs.Record.{entry}
 use Rattle.record.specs.Reader.{recordRefusal}
 use Rattle.auditing.specs.declared.Finding.{Finding}
 use Rattle.auditing.specs.declared.Finding.the-variants.{Secret, Clash, Refused}

@@ -2,8 +2,8 @@
 use auditing::Audited;
 use auditing::Finding;
 use finding_layout::finding_bytes;
-use record::Header;
-use record::table;
+use record_form::Header;
+use record_form::table;
 use refusal::first;
 use refusal::unless;
 use slices::put;
@@ -12,7 +12,7 @@ use system::check;
 ghost use mathlib.Core.Path.{_≡_};
 ghost use lib.ListN.{length};
 ghost use Rattle.refusal.specs.Refusal.{kept};
-ghost use Rattle.record.specs.Record.{layoutOf};
+ghost use Rattle.record_form.specs.Record.{layoutOf};
 ghost use Rattle.finding_layout.specs.FindingLayout.{findingBytes};
 ghost use Rattle.capi.specs.Layouts.{fieldsBytes, auditNumber, auditRefusal};
 

@@ -22,7 +22,7 @@ ghost use Rattle.sha256.specs.Digest.{digestRefusal};
 ghost use Rattle.system.specs.System.{mOf, systemRefusal, F, G};
 ghost use Rattle.evaluation.specs.Entry.{evaluateRefusal, polarRefusal};
 ghost use Rattle.simulator.specs.Simulator.{simulateRefusal, simulatedCommitments, simulatedReply};
-ghost use Rattle.record.specs.Record.{layoutOf};
+ghost use Rattle.record_form.specs.Record.{layoutOf};
 ghost use Rattle.record.specs.Reader.{headerIn};
 ghost use Rattle.reporting.specs.Report.{reportLength, reportOut};
 ghost use Rattle.auditing.specs.Outcome.{answerOf};

@@ -5,9 +5,9 @@
 use record::Reading;
 use record::body_of;
 use record::header_of;
-use record::laid_out;
 use record::read;
 use record::refusal_of;
+use record_form::laid_out;
 use refusal::first;
 use refusal::unless;
 use slices::equal;

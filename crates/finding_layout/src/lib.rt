@@ -2,7 +2,7 @@
 use auditing::Audited;
 use auditing::Finding;
 use commitment::Text;
-use record::word;
+use record_form::word;
 use slices::put_both;
 ghost use mathlib.Core.Path.{_≡_};
 ghost use lib.ListN.{length};

@@ -10,7 +10,7 @@ use Rattle.slices.proofs.Booleans.{either}
 use Rattle.system.specs.System.{F, systemRefusal}
 use Rattle.system.proofs.SystemLayout.{accepted}
 use Rattle.round.specs.ThreePass.{firstNumber, secondNumber}
-use Rattle.record.specs.declared.layout.Header.{Header}
+use Rattle.record_form.specs.declared.layout.Header.{Header}
 use Rattle.record.specs.Reader.{headerIn}
 use Rattle.transcript.specs.Transcript.{keyVector, roundChallenge}
 use Rattle.comparable.proofs.Front.{Front}

@@ -11,10 +11,10 @@ use Rattle.slices.proofs.Sameness.{same-true, same-by, same-refl}
 use Rattle.refusal.proofs.Refusals.{first-zero, later-zero, test-holds, equal-holds, both-zero, unless-holds, unless-most, orElse-most, firstOf-most}
 use Rattle.system.specs.System.{hasSizes}
 use Rattle.system.proofs.SystemLayout.{has-sizes, sizes-has, system-most}
-use Rattle.record.specs.declared.layout.Header.{Header}
-use Rattle.record.specs.declared.form.Check.the-variants.{FileOrder}
-use Rattle.record.specs.Record.{head, written, WellFormedRecord}
-use Rattle.record.specs.Form.{exchangeRefusal, exchangesRefusal}
+use Rattle.record_form.specs.declared.layout.Header.{Header}
+use Rattle.record_form.specs.declared.form.Check.the-variants.{FileOrder}
+use Rattle.record_form.specs.Record.{head, written, WellFormedRecord}
+use Rattle.record_form.specs.Form.{exchangeRefusal, exchangesRefusal}
 use Rattle.record.specs.Reader.{headerIn, fieldsIn, recordRefusal}
 use Rattle.record.proofs.RecordLayout.{well-formed, not-refused}
 use Rattle.transcript.specs.Transcript.{fitRefusal}

@@ -18,8 +18,8 @@ use Rattle.system.proofs.SystemLayout.{accepted}
 use Rattle.protocol.specs.Rounds.{IsX, IsY, IsScalar}
 use Rattle.protocol.proofs.SystemMap.{is-vector}
 use Rattle.scheme.specs.Scheme.{middleLength, vectorsLength, rhosLength, replyLength}
-use Rattle.record.specs.declared.layout.Header.{Header}
-use Rattle.record.specs.Record.{Elements, ValidExchange, layoutOf, replyOf, vectorsOf}
+use Rattle.record_form.specs.declared.layout.Header.{Header}
+use Rattle.record_form.specs.Record.{Elements, ValidExchange, layoutOf, replyOf, vectorsOf}
 use Rattle.record.specs.Reader.{headerIn, fieldsIn, recordRefusal}
 use Rattle.record.proofs.RecordLayout.{not-refused, valid-fields}
 use Rattle.transcript.specs.Transcript.{keyVector, roundExchange, roundMiddle, roundReply}

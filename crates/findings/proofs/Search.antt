@@ -16,7 +16,7 @@ use Rattle.protocol.proofs.Rounds.{quadratic-map}
 use Rattle.round.specs.Pieces.{commitment}
 use Rattle.exchange.specs.Messages.{commitmentsIn}
 use Rattle.scheme.specs.Scheme as S
-use Rattle.record.specs.declared.layout.Header.{Header}
+use Rattle.record_form.specs.declared.layout.Header.{Header}
 use Rattle.record.specs.Reader.{headerIn}
 use Rattle.transcript.specs.Transcript.{keyVector, roundCommitments}
 use Rattle.transcript.proofs.Search.{FirstIs, where-none, found-where}

@@ -16,7 +16,7 @@ use Rattle.round.specs.Pieces.{commitment}
 use Rattle.round.specs.ThreePass.{firstNumber, secondNumber, firstString, secondString}
 use Rattle.round.specs.FivePass.{openingFive}
 use Rattle.exchange.specs.Messages.{commitmentsIn, middleIn, replyThreeIn, replyFiveIn}
-use Rattle.record.specs.Record.{WellFormedRecord}
+use Rattle.record_form.specs.Record.{WellFormedRecord}
 use Rattle.record.specs.Reader.{headerIn, fieldsIn}
 use Rattle.transcript.specs.Transcript.{keyVector, roundCommitments, roundMiddle, roundChallenge, roundReply, acceptedRound}
 use Rattle.auditing.specs.Outcome.{Outcome, secret, clash, refused}

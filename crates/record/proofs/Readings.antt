@@ -5,10 +5,10 @@ use mathlib.Core.Bool.{Bool, true, false}
 use mathlib.Core.List.{List}
 use lib.Dec.{eqb}
 use borrow.Author.Tests.{eqb-true, eqb-false, ne-eqb}
-use Rattle.record.specs.declared.layout.Layout.{Layout}
-use Rattle.record.specs.declared.reader.Reading.{Reading}
-use Rattle.record.specs.declared.reader.Reading.the-variants.{Good, Refused}
-use Rattle.record.specs.Record.{layoutOf}
+use Rattle.record_form.specs.declared.layout.Layout.{Layout}
+use Rattle.record.specs.declared.Reading.{Reading}
+use Rattle.record.specs.declared.Reading.the-variants.{Good, Refused}
+use Rattle.record_form.specs.Record.{layoutOf}
 use Rattle.record.specs.Reader.{headerIn, recordRefusal, refusalOf, readingOf}
 
 pub reading-good : (b : List ℕ) → recordRefusal b ≡ 0 → readingOf b ≡ Good (layoutOf (headerIn b))

@@ -13,12 +13,12 @@ use Rattle.slices.proofs.Sameness.{same-true, same-by}
 use Rattle.refusal.proofs.Refusals.{first-zero, later-zero, test-holds, equal-holds, both-zero, unless-holds}
 use Rattle.field.specs.Vector.{allBelow}
 use Rattle.system.proofs.SystemLayout.{all-below-at, at-all-below}
-use Rattle.record.specs.declared.layout.Header.{Header}
-use Rattle.record.specs.declared.form.Check.the-variants.{FileOrder}
-use Rattle.record.specs.Record.{commitmentsLength, exchangesLength, layoutOf, recordLength, word, entry, table, head, Fields, written, Valid, WellFormedRecord}
-use Rattle.record.specs.Form.{areValues, exchangesRefusal}
+use Rattle.record_form.specs.declared.layout.Header.{Header}
+use Rattle.record_form.specs.declared.form.Check.the-variants.{FileOrder}
+use Rattle.record_form.specs.Record.{commitmentsLength, exchangesLength, layoutOf, recordLength, word, entry, table, head, Fields, written, Valid, WellFormedRecord}
+use Rattle.record_form.specs.Form.{areValues, exchangesRefusal}
 use Rattle.record.specs.Reader.{headerIn, bodyIn, fieldsIn, recordRefusal}
-use Rattle.record.proofs.ValidForm.{Values, values, values-true, valid-in-order, each-zero}
+use Rattle.record_form.proofs.ValidForm.{Values, values, values-true, valid-in-order, each-zero}
 
 -- ---- a record that is not refused
 

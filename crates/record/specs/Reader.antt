@@ -7,13 +7,13 @@ use lib.ListN.{length, take, drop}
 use Rattle.slices.specs.Slices.{_!_, same}
 use Rattle.refusal.specs.Refusal.{unless, _orElse_}
 use Rattle.field.specs.Vector.{allBelow}
-use Rattle.record.specs.declared.layout.Header.{Header}
-use Rattle.record.specs.declared.layout.Body.{Body}
-use Rattle.record.specs.declared.form.Check.the-variants.{FileOrder}
-use Rattle.record.specs.declared.reader.Reading.{Reading}
-use Rattle.record.specs.declared.reader.Reading.the-variants.{Good, Refused}
-use Rattle.record.specs.Record.{Fields, layoutOf, recordLength, table}
-use Rattle.record.specs.Form.{areValues, exchangesRefusal}
+use Rattle.record_form.specs.declared.layout.Header.{Header}
+use Rattle.record_form.specs.declared.layout.Body.{Body}
+use Rattle.record_form.specs.declared.form.Check.the-variants.{FileOrder}
+use Rattle.record.specs.declared.Reading.{Reading}
+use Rattle.record.specs.declared.Reading.the-variants.{Good, Refused}
+use Rattle.record_form.specs.Record.{Fields, layoutOf, recordLength, table}
+use Rattle.record_form.specs.Form.{areValues, exchangesRefusal}
 
 -- "then scheme, q, n, m, N"
 unfoldable pub headerIn : List ℕ → Header

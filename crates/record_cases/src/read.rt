@@ -2,10 +2,10 @@
 use cases::Head;
 use cases::Outcome;
 use cases::Small;
-use record::Body;
-use record::Layout;
 use record::Reading;
-use record::word;
+use record_form::Body;
+use record_form::Layout;
+use record_form::word;
 use slices::equal;
 use slices::part;
 

@@ -2,7 +2,7 @@
 use cases::Head;
 use cases::Outcome;
 use cases::Small;
-use record::Header;
+use record_form::Header;
 use slices::part;
 
 pub fn write_case(

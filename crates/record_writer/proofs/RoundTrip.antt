@@ -7,12 +7,12 @@ use borrow.Author.Tests.{eq-eqb}
 use Rattle.refusal.proofs.Refusals.{first-zero, later-zero, test-holds, equal-holds, both-zero, unless-holds}
 use Rattle.field.specs.Vector.{allBelow}
 use Rattle.system.proofs.SystemLayout.{all-below-at, at-all-below}
-use Rattle.record.specs.declared.form.Check.the-variants.{Elements, Challenges}
-use Rattle.record.specs.declared.reader.Reading.the-variants.{Good}
-use Rattle.record.specs.Record.{Fields, commitmentsLength, exchangesLength, layoutOf, recordLength, written, Valid}
-use Rattle.record.specs.Form.{areValues}
+use Rattle.record_form.specs.declared.form.Check.the-variants.{Elements, Challenges}
+use Rattle.record.specs.declared.Reading.the-variants.{Good}
+use Rattle.record_form.specs.Record.{Fields, commitmentsLength, exchangesLength, layoutOf, recordLength, written, Valid}
+use Rattle.record_form.specs.Form.{areValues}
 use Rattle.record.specs.Reader.{fieldsIn, recordRefusal, readingOf}
-use Rattle.record.proofs.ValidForm.{values, values-true, valid-each, each-zero}
+use Rattle.record_form.proofs.ValidForm.{values, values-true, valid-each, each-zero}
 use Rattle.record.proofs.Readings.{reading-good}
 use Rattle.record.proofs.RecordLayout.{header-values-of, valid-fields, fields-written, header-written, written-accepted, written-fields, whole-fields}
 use Rattle.record_writer.specs.Writer.{writeRefusal}

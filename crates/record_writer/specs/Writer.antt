@@ -5,10 +5,10 @@ use lib.Dec.{eqb}
 use lib.ListN.{length}
 use Rattle.refusal.specs.Refusal.{unless, _orElse_}
 use Rattle.field.specs.Vector.{allBelow}
-use Rattle.record.specs.declared.layout.Header.{Header}
-use Rattle.record.specs.declared.form.Check.the-variants.{Elements, Challenges}
-use Rattle.record.specs.Record.{Fields, commitmentsLength, exchangesLength, recordLength}
-use Rattle.record.specs.Form.{areValues, exchangesRefusal}
+use Rattle.record_form.specs.declared.layout.Header.{Header}
+use Rattle.record_form.specs.declared.form.Check.the-variants.{Elements, Challenges}
+use Rattle.record_form.specs.Record.{Fields, commitmentsLength, exchangesLength, recordLength}
+use Rattle.record_form.specs.Form.{areValues, exchangesRefusal}
 
 -- the writer's arguments as the fields of a record
 abbrev pub fieldsOf : Header → List ℕ → List ℕ → List ℕ → Fields

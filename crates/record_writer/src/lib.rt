@@ -3,13 +3,13 @@
 // The entry `write` answers 0, or the number of the refusal, and then the output is what it was: 1 for a value of the header,
 // 2 for a length, the output's too, 3 for an element, 4 for a challenge. It judges no round.
 use field::all_below;
-use record::Check;
-use record::Header;
-use record::are_values;
-use record::exchanges_refusal;
-use record::laid_out;
-use record::record_length;
-use record::table;
+use record_form::Check;
+use record_form::Header;
+use record_form::are_values;
+use record_form::exchanges_refusal;
+use record_form::laid_out;
+use record_form::record_length;
+use record_form::table;
 use refusal::first;
 use refusal::unless;
 use slices::put;
@@ -17,7 +17,7 @@ ghost use mathlib.Core.Path.{_≡_};
 ghost use Prim.Native.Nat.{_+_};
 ghost use lib.ListN.{length};
 ghost use Rattle.refusal.specs.Refusal.{kept};
-ghost use Rattle.record.specs.Record.{written};
+ghost use Rattle.record_form.specs.Record.{written};
 ghost use Rattle.record_writer.specs.Writer.{fieldsOf, writeRefusal};
 
 // The refusal of a call, its output's length among its arguments.

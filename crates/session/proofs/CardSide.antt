@@ -15,7 +15,7 @@ use Rattle.field.specs.Vector.{allBelow}
 use Rattle.system.specs.System.{qOf, nOf, mOf, systemRefusal}
 use Rattle.system.proofs.SystemLayout.{at-all-below, sizes-has, sizes-true, accepted}
 use Rattle.scheme.specs.Scheme.{challenges, commitmentsLength, replyLength}
-use Rattle.record.specs.Record.{Elements}
+use Rattle.record_form.specs.Record.{Elements}
 use Rattle.protocol.specs.Protocols.{cardThree, r1Of, t1Of}
 use Rattle.protocol.specs.Rounds.{mapOf}
 use Rattle.round.specs.ThreePass.{replyThree}

@@ -18,7 +18,7 @@ use Rattle.field.specs.Vector.{held}
 use Rattle.system.specs.System.{qOf, nOf, mOf, systemRefusal, lentRefusal}
 use Rattle.system.proofs.SystemLayout.{at-all-below, sizes-has}
 use Rattle.scheme.specs.Scheme.{challenges, commitmentsLength, vectorsLength, replyLength}
-use Rattle.record.specs.Record.{Elements}
+use Rattle.record_form.specs.Record.{Elements}
 use Rattle.session_state.specs.State.{nextCount}
 use Rattle.session_state.specs.declared.Verdict.the-variants.{Accepted}
 use Rattle.session_state.proofs.States.{state-due, due-state, count-below}

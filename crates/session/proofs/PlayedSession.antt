@@ -15,7 +15,7 @@ use Rattle.field.specs.Vector.{held, allBelow}
 use Rattle.system.specs.System.{qOf, nOf, mOf}
 use Rattle.system.proofs.SystemLayout.{all-below-at, at-all-below}
 use Rattle.scheme.specs.Scheme.{commitmentsLength, vectorsLength, rhosLength, replyLength}
-use Rattle.record.specs.Record.{Elements}
+use Rattle.record_form.specs.Record.{Elements}
 use Rattle.exchange.proofs.Formed.{Lends}
 use Rattle.honest.proofs.Honest.{three-commitments-long, three-reply-long, three-reply-below, middle-long, middle-elements, five-commitments-long, five-reply-long, five-reply-below}
 use Rattle.session_state.specs.declared.Verdict.the-variants.{Accepted}

@@ -10,7 +10,7 @@ use lib.ListN.{length, take}
 use Rattle.field.specs.Vector.{held}
 use Rattle.system.specs.System.{qOf, nOf, mOf, WellFormedSystem, F}
 use Rattle.scheme.specs.Scheme.{challenges, commitmentsLength, replyLength}
-use Rattle.record.specs.Record.{Elements}
+use Rattle.record_form.specs.Record.{Elements}
 use Rattle.card_state.specs.declared.session.Card.{Card}
 use Rattle.card_state.specs.Card.{openedCard, committedCard, sentCommitments, sentMiddle, sentReply}
 use Rattle.session.specs.Session.{Opening, Call, commit, answerAlpha, reply, takeCommitments, setAlpha, takeMiddle, setChallenge, takeReply, World, refusal, step, Unaltered}

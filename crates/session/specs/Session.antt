@@ -12,7 +12,7 @@ use Rattle.refusal.specs.Refusal.{kept}
 use Rattle.field.specs.Vector.{vector}
 use Rattle.system.specs.System.{qOf, nOf, mOf}
 use Rattle.scheme.specs.Scheme.{challenges, commitmentsLength, vectorsLength, replyLength}
-use Rattle.record.specs.Record.{Elements}
+use Rattle.record_form.specs.Record.{Elements}
 use Rattle.exchange.specs.Messages.{accepts}
 use Rattle.session_state.specs.declared.Verdict.the-variants.{Accepted}
 use Rattle.card_state.specs.declared.session.Card.{Card}

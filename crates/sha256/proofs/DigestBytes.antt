@@ -8,7 +8,7 @@ use native.Mathlib.Omega.{arith}
 use lib.Dec.{lit<}
 use lib.ListN.{length, getD, length-append, List·getD-append, List·getD-eq-default}
 use lib.Seq.{getD-append-add}
-use Rattle.sha256.specs.Bytes.{byteOf, bytesOf}
+use Rattle.sha256_block.specs.Bytes.{byteOf, bytesOf}
 use Rattle.sha256.specs.Sha256.{joined, hashWords, sha256}
 use Rattle.sha256.proofs.NumberBytes.{length-bytesOf, getD-bytesOf}
 

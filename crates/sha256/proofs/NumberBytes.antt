@@ -3,7 +3,7 @@ use mathlib.Core.Path.{_≡_}
 use Prim.Native.Nat.{ℕ, _<_}
 use lib.ListN.{length, getD}
 use Rattle.slices.proofs.Tabulate.{length-tabulate, tabulate-at}
-use Rattle.sha256.specs.Bytes.{byteOf, bytesOf}
+use Rattle.sha256_block.specs.Bytes.{byteOf, bytesOf}
 
 pub length-bytesOf : (k n : ℕ) → length (bytesOf k n) ≡ k
 unfolding bytesOf

@@ -5,7 +5,7 @@ use Prim.Native.Nat.{ℕ, suc, _+_, _-_, _*_, _/_, _%_, _<_, _≤_}
 use native.Mathlib.Omega.{arith}
 use lib.ListN.{length, getD, take, drop, replicate, length-append, length-replicate, getD-replicate, length-drop, List·getD-append}
 use lib.Seq.{getD-append-add, getD-at, getD-take, getD-drop, take-append-le, drop-append-le, length-take-le}
-use Rattle.sha256.specs.Bytes.{byteOf, bytesOf}
+use Rattle.sha256_block.specs.Bytes.{byteOf, bytesOf}
 use Rattle.sha256.specs.Padding.{zeroBytes, pad, blockCount, block}
 use Rattle.sha256.proofs.NumberBytes.{length-bytesOf, getD-bytesOf}
 

@@ -1,9 +1,5 @@
 -- What the contracts of this crate and of those above it cite: FIPS 180-4.
-pub mod Bytes
-pub mod Words
-pub mod Constants
 pub mod Padding
 pub mod Sha256
 pub mod Examples
-pub mod State
 pub mod Digest

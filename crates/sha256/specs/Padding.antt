@@ -2,8 +2,7 @@
 use mathlib.Core.List.{List, _∷_, _++_}
 use Prim.Native.Nat.{ℕ, _-_, _*_, _/_, _%_}
 use lib.ListN.{length, take, drop, replicate}
-use Rattle.slices.specs.Slices.{tabulate}
-use Rattle.sha256.specs.Bytes.{bytesOf, wordAt}
+use Rattle.sha256_block.specs.Bytes.{bytesOf}
 
 -- 5.1.1: the zero bytes that follow the one bit and seven zero bits; k is 7 + 8 zeroBytes, the smallest solution (`fills` and `fewest`
 -- of proofs/PaddedMessage.antt)
@@ -21,7 +20,3 @@ blockCount p = length p / 64
 -- 5.2.1: block i of a padded message, counted from 0
 unfoldable pub block : List ℕ → ℕ → List ℕ
 block p i = take 64 (drop (64 * i) p)
-
--- 5.2.1: a block as the sixteen words M_0 to M_15
-unfoldable pub wordsOf : List ℕ → List ℕ
-wordsOf m = tabulate 16 (wordAt m)

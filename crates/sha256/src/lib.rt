@@ -4,24 +4,20 @@
 ghost use mathlib.Core.Path.{_≡_};
 ghost use Prim.Native.Nat.{_/_, _<_, _≤_};
 ghost use lib.ListN.{length};
-ghost use Rattle.sha256.specs.Bytes.{byteOf};
+ghost use Rattle.sha256_block.specs.Bytes.{byteOf};
 ghost use Rattle.sha256.specs.Padding.{pad, blockCount};
 ghost use Rattle.sha256.specs.Sha256.{hashValue, hashWords, sha256};
-ghost use Rattle.sha256.specs.State.{variables};
+ghost use Rattle.sha256_block.specs.State.{variables};
 ghost use Rattle.refusal.specs.Refusal.{kept};
 ghost use Rattle.sha256.specs.Digest.{digestRefusal};
-use crate::block::hash_block;
-use crate::constants::initial_state;
 use crate::padding::block_count;
 use crate::padding::padded_block;
-use crate::state::State;
+use sha256_block::State;
+use sha256_block::hash_block;
+use sha256_block::initial_state;
 use slices::put;
 
-mod block;
-mod constants;
 mod padding;
-mod state;
-mod word;
 
 // The hash value after the blocks that the message has whole.
 fn whole_blocks(message: &[u8]) -> State

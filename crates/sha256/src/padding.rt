@@ -2,7 +2,7 @@
 ghost use mathlib.Core.Path.{_≡_};
 ghost use Prim.Native.Nat.{_+_, _*_, _/_, _<_, _≤_};
 ghost use lib.ListN.{length, getD};
-ghost use Rattle.sha256.specs.Bytes.{byteOf};
+ghost use Rattle.sha256_block.specs.Bytes.{byteOf};
 ghost use Rattle.sha256.specs.Padding.{pad, blockCount, block};
 
 // How many blocks a message of n bytes has once it is padded.

@@ -7,7 +7,7 @@ use Rattle.refusal.specs.Refusal.{unless, _orElse_}
 use Rattle.field.specs.Vector.{held}
 use Rattle.scheme.specs.Scheme as S
 use Rattle.system.specs.System.{hasSizes, systemRefusal}
-use Rattle.record.specs.Record.{exchangeOf, middleOf, challengeOf, replyOf}
+use Rattle.record_form.specs.Record.{exchangeOf, middleOf, challengeOf, replyOf}
 use Rattle.record.specs.Reader.{headerIn, fieldsIn, recordRefusal}
 use Rattle.exchange.specs.Messages.{accepts}
 

@@ -4,10 +4,10 @@ use Prim.Native.Nat.{ℕ}
 use native.Mathlib.Omega.{arith}
 use mathlib.Core.List.{List}
 use lib.Dec.{eqb}
-use Rattle.record.specs.declared.layout.Layout.{Layout}
-use Rattle.record.specs.declared.reader.Reading.{Reading}
-use Rattle.record.specs.declared.reader.Reading.the-variants.{Good, Refused}
-use Rattle.record.specs.Record.{layoutOf}
+use Rattle.record_form.specs.declared.layout.Layout.{Layout}
+use Rattle.record.specs.declared.Reading.{Reading}
+use Rattle.record.specs.declared.Reading.the-variants.{Good, Refused}
+use Rattle.record_form.specs.Record.{layoutOf}
 use Rattle.record.specs.Reader.{recordRefusal, refusalOf, readingOf}
 use Rattle.record.proofs.Readings.{reading-good, reading-number, good-not-refused, good-layout}
 use Rattle.refusal.specs.Refusal.{unless}

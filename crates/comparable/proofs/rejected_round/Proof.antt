@@ -4,7 +4,7 @@ use mathlib.Core.Path.{_≡_, refl, ap, _∙_}
 use mathlib.Core.Bool.{Bool, not}
 use mathlib.Core.List.{List}
 use native.Mathlib.Omega.{arith}
-use Rattle.record.specs.declared.layout.Header.{Header}
+use Rattle.record_form.specs.declared.layout.Header.{Header}
 use Rattle.record.specs.Reader.{headerIn}
 use Rattle.transcript.specs.Transcript.{acceptedRound, firstWhere}
 use Rattle.transcript.proofs.Search.{where-start, where-step, where-here, where-end}

@@ -3,7 +3,7 @@ use Prim.Native.Nat.{ℕ, _+_, _-_, _≤_}
 use mathlib.Core.Path.{_≡_, ap, _∙_}
 use mathlib.Core.List.{List}
 use native.Mathlib.Omega.{arith}
-use Rattle.record.specs.declared.layout.Header.{Header}
+use Rattle.record_form.specs.declared.layout.Header.{Header}
 use Rattle.record.specs.Reader.{headerIn}
 use Rattle.transcript.specs.Transcript.{firstWhere}
 use Rattle.transcript.proofs.Search.{where-start, where-step, where-here, where-end}

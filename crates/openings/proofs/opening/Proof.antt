@@ -1,6 +1,6 @@
 -- By cases on the scheme. Assumes nothing.
 use mathlib.Core.Path.{sym, ap, _∙_}
-use Rattle.record.specs.declared.layout.Header.{Header}
+use Rattle.record_form.specs.declared.layout.Header.{Header}
 use borrow.Author.Tests.{ne-eqb}
 use Rattle.openings.specs.Openings.{openingIn}
 use borrow.Author.Needs.{needs}

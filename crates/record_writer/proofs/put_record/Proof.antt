@@ -6,7 +6,7 @@ use native.Mathlib.Omega.{arith}
 use lib.ListN.{length}
 use Prim.Native.Nat.{ℕ}
 use Rattle.slices.proofs.Parts.{placed-next, placed-all}
-use Rattle.record.specs.Record.{head, written}
+use Rattle.record_form.specs.Record.{head, written}
 use borrow.Author.Needs.{needs}
 use Rattle.record_writer.proofs.put_record.Statement.{statement}
 use Rattle.record_writer.proofs.put_record.Tie as tie

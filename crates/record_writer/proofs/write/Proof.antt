@@ -4,7 +4,7 @@ use mathlib.Core.Path.{_≡_, refl, sym, _∙_}
 use native.Mathlib.Omega.{arith}
 use lib.ListN.{length}
 use Rattle.refusal.proofs.Refusals.{kept-refused, kept-accepted}
-use Rattle.record.specs.Record.{Fields, recordLength}
+use Rattle.record_form.specs.Record.{Fields, recordLength}
 use Rattle.record_writer.specs.Writer.{writeRefusal}
 use Rattle.record_writer.proofs.RoundTrip.{taken}
 use borrow.Author.Needs.{needs}

@@ -1,6 +1,6 @@
 -- The callees' answers, put together. Assumes nothing.
 use Rattle.refusal.proofs.Refusals.{orElse-assoc}
-use Rattle.record.specs.Record.{layoutOf}
+use Rattle.record_form.specs.Record.{layoutOf}
 use Rattle.record_writer.specs.Writer.{writeRefusal}
 use borrow.Author.Needs.{needs}
 use Rattle.record_writer.proofs.write_refusal.Statement.{statement}

@@ -3,7 +3,7 @@ use Prim.Native.Nat.{_-_, _+_, _≤_}
 use mathlib.Core.Path.{_≡_, ap}
 use native.Mathlib.Omega.{arith}
 use lib.ListN.{length}
-use Rattle.record.specs.declared.layout.Header.{Header}
+use Rattle.record_form.specs.declared.layout.Header.{Header}
 use Rattle.transcript.specs.Transcript.{acceptedCount}
 use Rattle.transcript.proofs.Counts.{count-start, count-step}
 use Rattle.reporting.proofs.Lines.{Written, lines-start, lines-step, text-end}

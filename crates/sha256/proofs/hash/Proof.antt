@@ -6,7 +6,7 @@ use native.Mathlib.Omega.{arith}
 use lib.ListN.{length, getD}
 use borrow.Author.Needs.{needs}
 use Rattle.slices.specs.Slices.{tabulate}
-use Rattle.sha256.specs.Bytes.{byteOf}
+use Rattle.sha256_block.specs.Bytes.{byteOf}
 use Rattle.sha256.specs.Sha256.{joined, hashWords, sha256}
 use Rattle.slices.proofs.Tabulate.{tabulate-of, Filled, fill-more, filled}
 use Rattle.sha256.proofs.DigestBytes.{length-joined, joined-at}

@@ -5,7 +5,7 @@ use Prim.Native.Nat.{_≤_, _-_, _/_}
 use native.Mathlib.Omega.{arith}
 use lib.ListN.{length}
 use borrow.Author.Needs.{needs}
-use Rattle.sha256.specs.State.{variables}
+use Rattle.sha256_block.specs.State.{variables}
 use Rattle.sha256.specs.Padding.{pad, blockCount}
 use Rattle.sha256.specs.Sha256.{hashValue}
 use Rattle.sha256.proofs.PaddedMessage.{whole-block, part-block, length-block}

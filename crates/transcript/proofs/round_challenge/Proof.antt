@@ -1,5 +1,5 @@
 -- The callees' answers, put together. Assumes nothing.
-use Rattle.record.specs.Record.{challengeOf}
+use Rattle.record_form.specs.Record.{challengeOf}
 use Rattle.transcript.specs.Transcript.{roundChallenge}
 use borrow.Author.Needs.{needs}
 use Rattle.transcript.proofs.round_challenge.Statement.{statement}

@@ -1,5 +1,5 @@
 -- The callees' answers, put together. Assumes nothing.
-use Rattle.record.specs.Record.{exchangeLength, exchangeOf}
+use Rattle.record_form.specs.Record.{exchangeLength, exchangeOf}
 use Rattle.record.specs.Reader.{fieldsIn}
 use Rattle.transcript.specs.Transcript.{roundExchange}
 use borrow.Author.Needs.{needs}

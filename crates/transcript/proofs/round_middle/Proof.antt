@@ -1,5 +1,5 @@
 -- The callees' answers, put together. Assumes nothing.
-use Rattle.record.specs.Record.{middleOf}
+use Rattle.record_form.specs.Record.{middleOf}
 use borrow.Author.Needs.{needs}
 use Rattle.transcript.proofs.round_middle.Statement.{statement}
 use Rattle.transcript.proofs.round_middle.Tie as tie

@@ -1,5 +1,5 @@
 -- The callees' answers, put together. Assumes nothing.
-use Rattle.record.specs.Record.{replyOf}
+use Rattle.record_form.specs.Record.{replyOf}
 use borrow.Author.Needs.{needs}
 use Rattle.transcript.proofs.round_reply.Statement.{statement}
 use Rattle.transcript.proofs.round_reply.Tie as tie

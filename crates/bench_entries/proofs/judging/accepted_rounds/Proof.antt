@@ -4,7 +4,7 @@ use mathlib.Core.Path.{_≡_, ap, _∙_}
 use mathlib.Core.Bool.{Bool, true, false, cond}
 use mathlib.Core.Logic.{⊎-elim}
 use native.Mathlib.Omega.{arith}
-use Rattle.record.specs.declared.layout.Header.{Header}
+use Rattle.record_form.specs.declared.layout.Header.{Header}
 use Rattle.transcript.specs.Transcript.{acceptedCount}
 use Rattle.transcript.proofs.Counts.{count-start, count-step, count-most}
 use borrow.Author.Needs.{needs}

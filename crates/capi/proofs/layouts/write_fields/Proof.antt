@@ -2,7 +2,7 @@
 use Prim.Native.Nat.{ℕ}
 use mathlib.Core.Path.{ap, _∙_}
 use mathlib.Core.List.{List, _++_}
-use Rattle.record.specs.Record.{layoutOf, table, head}
+use Rattle.record_form.specs.Record.{layoutOf, table, head}
 use Rattle.capi.specs.Layouts.{fieldsBytes}
 use borrow.Author.Needs.{needs}
 use Rattle.capi.proofs.layouts.write_fields.Statement.{statement}

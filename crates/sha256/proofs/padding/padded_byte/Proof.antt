@@ -5,7 +5,7 @@ use native.Mathlib.Omega.{arith}
 use lib.Arith.{lt-of-le-ne}
 use lib.ListN.{length}
 use borrow.Author.Needs.{needs}
-use Rattle.sha256.specs.Bytes.{byteOf}
+use Rattle.sha256_block.specs.Bytes.{byteOf}
 use Rattle.sha256.proofs.PaddedMessage.{lengthAt, pad-message, pad-one, pad-zero, pad-length, length-pad}
 use Rattle.sha256.proofs.padding.padded_byte.Statement.{statement}
 use Rattle.sha256.proofs.padding.padded_byte.Tie as tie

@@ -1,0 +1,13 @@
+-- The callee's answer. Assumes nothing.
+use Rattle.record.specs.Reader.{bodyIn}
+use borrow.Author.Needs.{needs}
+use Rattle.record.proofs.body_of.Statement.{statement}
+use Rattle.record.proofs.body_of.Tie as tie
+
+pub body-of-spec : {M : Type 1} → statement M
+unfolding bodyIn
+body-of-spec =
+    tie.close
+    (tie.spec
+    (λ c κs. search needs)
+    (λ c. c .part .ensures))

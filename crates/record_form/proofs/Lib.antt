@@ -1,0 +1,2 @@
+-- The checks pass exactly where header and exchanges are valid.
+pub mod ValidForm

@@ -1,0 +1,122 @@
+-- Document 01, "Session record": the layout, and what a well-formed record is.
+use Prim.Native.Nat.{ℕ, _+_, _*_, _/_, _%_, _≤_, _<_}
+use mathlib.Core.Path.{_≡_}
+use mathlib.Core.Bool.{true}
+use mathlib.Core.List.{List, [], _∷_, _++_}
+use lib.ListN.{length, take, drop}
+use Rattle.slices.specs.Slices.{_!_}
+use Rattle.field.specs.Ops.{isField}
+use Rattle.scheme.specs.Scheme as S
+use Rattle.record_form.specs.declared.layout.Header.{Header}
+use Rattle.record_form.specs.declared.layout.Body.{Body}
+use Rattle.record_form.specs.declared.layout.Layout.{Layout}
+
+-- ---- lengths
+
+-- "Commitments: 32 bytes each, 3 or 2 a round."
+unfoldable pub commitmentsLength : Header → ℕ
+commitmentsLength h = h .rounds * S.commitmentsLength (h .scheme)
+
+-- the bytes of a round's exchange
+unfoldable pub exchangeLength : Header → ℕ
+exchangeLength h = S.exchangeLength (h .scheme) (h .n) (h .m)
+
+unfoldable pub exchangesLength : Header → ℕ
+exchangesLength h = h .rounds * exchangeLength h
+
+-- "Bodies follow in that order without gaps from offset 30. Key: v."
+unfoldable pub layoutOf : Header → Layout
+layoutOf h =
+    record {
+      edition = 1;
+      header = h;
+      key = record { offset = 30; length = h .m };
+      commitments = record { offset = 30 + h .m; length = commitmentsLength h };
+      exchanges = record { offset = 30 + h .m + commitmentsLength h; length = exchangesLength h };
+    }
+
+-- "Nothing follows the last body."
+unfoldable pub recordLength : Header → ℕ
+recordLength h = 30 + h .m + commitmentsLength h + exchangesLength h
+
+-- ---- bytes
+
+-- "each 4 bytes, low byte first"
+unfoldable pub word : ℕ → List ℕ
+word k = k % 256 ∷ k / 256 % 256 ∷ k / 65536 % 256 ∷ k / 16777216 % 256 ∷ []
+
+-- "offset and length"
+unfoldable pub entry : Body → List ℕ
+entry b = word (b .offset) ++ word (b .length)
+
+-- "a table of contents of three entries": "key, commitments, exchanges"
+unfoldable pub table : Header → List ℕ
+table h = entry (layoutOf h .key) ++ entry (layoutOf h .commitments) ++ entry (layoutOf h .exchanges)
+
+-- "Byte 0 edition (1), then scheme, q, n, m, N."
+unfoldable pub head : Header → List ℕ
+head h = 1 ∷ h .scheme ∷ h .q ∷ h .n ∷ h .m ∷ h .rounds ∷ []
+
+-- what a record holds
+pub record Fields : Type 0 where
+  pub header : Header
+  pub key : List ℕ
+  pub commitments : List ℕ
+  pub exchanges : List ℕ
+
+-- the record of these fields: header, table, then the three bodies
+unfoldable pub written : Fields → List ℕ
+written f = head (f .header) ++ table (f .header) ++ f .key ++ f .commitments ++ f .exchanges
+
+-- ---- the parts of an exchange
+
+-- the exchange of round r, counted from 0
+unfoldable pub exchangeOf : Header → List ℕ → ℕ → List ℕ
+exchangeOf h exchanges r = take (exchangeLength h) (drop (r * exchangeLength h) exchanges)
+
+-- "scheme 5, α, t1, e1": nothing in scheme 3
+unfoldable pub middleOf : Header → List ℕ → List ℕ
+middleOf h exchange = take (S.middleLength (h .scheme) (h .n) (h .m)) exchange
+
+-- "challenge byte"
+unfoldable pub challengeOf : Header → List ℕ → ℕ
+challengeOf h exchange = exchange ! S.middleLength (h .scheme) (h .n) (h .m)
+
+-- "and reply"
+unfoldable pub replyOf : Header → List ℕ → List ℕ
+replyOf h exchange = take (S.replyLength (h .scheme) (h .n) (h .m)) (drop (S.middleLength (h .scheme) (h .n) (h .m) + 1) exchange)
+
+-- the reply's vectors, without its ρ
+unfoldable pub vectorsOf : Header → List ℕ → List ℕ
+vectorsOf h exchange = take (S.vectorsLength (h .scheme) (h .n) (h .m)) (drop (S.middleLength (h .scheme) (h .n) (h .m) + 1) exchange)
+
+-- ---- well-formed
+
+-- each is below q
+abbrev pub Elements : ℕ → List ℕ → Type 0
+Elements q l = (i : ℕ) → i < length l → l ! i < q
+
+-- an exchange whose elements and challenge are among their values
+pub record ValidExchange (h : Header) (exchange : List ℕ) : Type 0 where
+  pub middle-elements : Elements (h .q) (middleOf h exchange)
+  pub challenge-value : challengeOf h exchange < S.challenges (h .scheme)
+  pub reply-elements : Elements (h .q) (vectorsOf h exchange)
+
+-- "every field, element and challenge among its values"
+pub record Valid (f : Fields) : Type 0 where
+  pub scheme-value : S.isScheme (f .header .scheme) ≡ true
+  pub q-value : isField (f .header .q) ≡ true
+  pub n-value : (1 ≤ f .header .n) × (f .header .n ≤ 96)
+  pub m-value : (1 ≤ f .header .m) × (f .header .m ≤ 96)
+  pub rounds-value : (1 ≤ f .header .rounds) × (f .header .rounds ≤ 255)
+  pub key-length : length (f .key) ≡ f .header .m
+  pub commitments-length : length (f .commitments) ≡ commitmentsLength (f .header)
+  pub exchanges-length : length (f .exchanges) ≡ exchangesLength (f .header)
+  pub key-elements : Elements (f .header .q) (f .key)
+  pub each-exchange : (r : ℕ) → r < f .header .rounds → ValidExchange (f .header) (exchangeOf (f .header) (f .exchanges) r)
+
+-- "A record or a system is well-formed when it is laid out as here, every field, element and challenge among its values."
+pub record WellFormedRecord (b : List ℕ) : Type 0 where
+  pub fields : Fields
+  pub valid : Valid fields
+  pub laid-out : b ≡ written fields

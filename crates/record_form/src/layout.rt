@@ -1,0 +1,104 @@
+// Where the bodies of a record stand, and the table of contents that says so.
+use scheme::commitments_length;
+use scheme::exchange_length;
+use scheme::of_rounds;
+use slices::put;
+use slices::put_both;
+ghost use mathlib.Core.Path.{_≡_};
+ghost use Prim.Native.Nat.{_+_, _≤_};
+ghost use lib.ListN.{length};
+ghost use Rattle.record_form.specs.Record.{layoutOf, recordLength, word as wordOf, entry as entryOf, table as tableOf};
+
+// The values that stand behind the edition.
+pub struct Header {
+    pub scheme: u8,
+    pub q: u8,
+    pub n: u8,
+    pub m: u8,
+    pub rounds: u8,
+}
+
+// Where a body stands.
+pub struct Body {
+    pub offset: usize,
+    pub length: usize,
+}
+
+// The header, and where each body stands.
+pub struct Layout {
+    pub edition: u8,
+    pub header: Header,
+    pub key: Body,
+    pub commitments: Body,
+    pub exchanges: Body,
+}
+
+pub fn laid_out(h: Header) -> Layout
+    ensures { λ r. ⌜ (r ≡ layoutOf h) × (r .exchanges .offset + r .exchanges .length ≤ 1000000) ⌝ }
+{
+    let m = h.m as usize;
+    let commitments = of_rounds(h.rounds, commitments_length(h.scheme));
+    let exchanges = of_rounds(h.rounds, exchange_length(h.scheme, h.n, h.m));
+    Layout {
+        edition: 1,
+        header: h,
+        key: Body {
+            offset: 30,
+            length: m,
+        },
+        commitments: Body {
+            offset: 30 + m,
+            length: commitments,
+        },
+        exchanges: Body {
+            offset: 30 + m + commitments,
+            length: exchanges,
+        },
+    }
+}
+
+// The bytes of a whole record.
+pub fn record_length(h: Header) -> usize
+    ensures { λ r. ⌜ (r ≡ recordLength h) × (r ≤ 1000000) ⌝ }
+{
+    let last = laid_out(h).exchanges;
+    last.offset + last.length
+}
+
+// A number as four bytes, the lowest first.
+pub fn word(k: usize) -> [u8; 4]
+    ensures { λ r. ⌜ (r ≡ wordOf k) × (length r ≡ 4) ⌝ }
+{
+    [
+        (k % 256) as u8,
+        (k / 256 % 256) as u8,
+        (k / 65536 % 256) as u8,
+        (k / 16777216 % 256) as u8,
+    ]
+}
+
+// An entry of the table: offset and length.
+fn entry(body: Body) -> [u8; 8]
+    ensures { λ r. ⌜ (r ≡ entryOf body) × (length r ≡ 8) ⌝ }
+{
+    let offset = word(body.offset);
+    let length = word(body.length);
+    let mut out = [0; 8];
+    put_both(&mut out, &offset, &length);
+    out
+}
+
+// The table of contents.
+pub fn table(h: Header) -> [u8; 24]
+    ensures { λ r. ⌜ (r ≡ tableOf h) × (length r ≡ 24) ⌝ }
+{
+    let l = laid_out(h);
+    let mut out = [0; 24];
+    let key = entry(l.key);
+    let commitments = entry(l.commitments);
+    let exchanges = entry(l.exchanges);
+    put(&mut out, 0, &key);
+    put(&mut out, 8, &commitments);
+    put(&mut out, 16, &exchanges);
+    out
+}

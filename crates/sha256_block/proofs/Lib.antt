@@ -1,0 +1,3 @@
+-- The laws that several functions' proofs share.
+mod MessageSchedule
+mod Rounds

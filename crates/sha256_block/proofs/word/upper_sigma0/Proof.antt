@@ -1,0 +1,12 @@
+-- `word::upper_sigma0` meets its contract: its rotations are those of Σ0.
+use borrow.Author.Needs.{needs}
+use Rattle.sha256_block.specs.Words.{Σ0}
+use Rattle.sha256_block.proofs.word.upper_sigma0.Statement.{statement}
+use Rattle.sha256_block.proofs.word.upper_sigma0.Tie as tie
+
+returns : tie.Need-returns
+unfolding Σ0
+returns c = simp (c .rotate-right3 .ensures, c .before .rotate-right2 .ensures, c .before .before .rotate-right .ensures)
+
+pub upper-sigma0-spec : {M : Type 1} → statement M
+upper-sigma0-spec = tie.close (tie.spec (λ c κs. search needs) (λ c κs. search needs) (λ c κs. search needs) returns)
