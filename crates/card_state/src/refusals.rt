@@ -1,9 +1,9 @@
 // The refusals of the card's calls, in document 01's order: 11, 10; the system's, 7; 1, 2, 3, 4, 5.
 use crate::session::Card;
 use crate::session::phase_number;
-use polynomials::f;
 use field::all_below;
 use field::from_slice;
+use polynomials::f;
 use refusal::first;
 use refusal::unless;
 use scheme::challenges;

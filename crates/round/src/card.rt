@@ -1,11 +1,11 @@
 // The vectors of a round as the card and the simulator form them.
 use crate::pieces::Middle;
 use crate::pieces::Vectors;
-use polynomials::f;
-use polynomials::g;
 use field::add_vectors;
 use field::mul_vector;
 use field::sub_vectors;
+use polynomials::f;
+use polynomials::g;
 use slices::byte_at;
 ghost use mathlib.Core.Path.{_≡_};
 ghost use Rattle.system.specs.System.{systemRefusal};
