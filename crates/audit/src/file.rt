@@ -1,9 +1,9 @@
 // A file that an argument names, read whole into a lent buffer.
 //
 // The buffers have room for the largest well-formed file and one byte more, by which a file that is too large shows.
+use libc::STDERR_FILENO;
 ghost use mathlib.Core.Path.{_≡_};
 ghost use lib.ListN.{length};
-use libc::STDERR_FILENO;
 
 // How many bytes a file has, or that it was not read, and standard error says why.
 pub enum Loaded {

@@ -6,12 +6,6 @@
 // case, since a Rattle program has no other.
 mod file;
 
-ghost use mathlib.Core.Path.{_≡_};
-ghost use lib.ListN.{length};
-ghost use Rattle.slices.specs.Slices.{placed};
-ghost use Rattle.system.specs.System.{nOf};
-ghost use Rattle.auditing.specs.Audit.{auditThree, auditFive};
-ghost use Rattle.audit_lines.specs.AuditLines.{auditText};
 use crate::file::Loaded;
 use crate::file::load;
 use crate::file::record_buffer;
@@ -23,6 +17,12 @@ use libc::STDERR_FILENO;
 use libc::STDOUT_FILENO;
 use slices::byte_at;
 use slices::part;
+ghost use mathlib.Core.Path.{_≡_};
+ghost use lib.ListN.{length};
+ghost use Rattle.slices.specs.Slices.{placed};
+ghost use Rattle.system.specs.System.{nOf};
+ghost use Rattle.auditing.specs.Audit.{auditThree, auditFive};
+ghost use Rattle.audit_lines.specs.AuditLines.{auditText};
 
 // How many words there are with a system and three or four records, the program's name among them.
 const WITH_THREE: usize = 5;

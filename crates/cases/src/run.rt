@@ -1,12 +1,12 @@
 // A run through a file: which case comes next, and the counts, printed group by group.
-ghost use mathlib.Core.Path.{_≡_};
-ghost use mathlib.Core.Bool.{true, false};
-ghost use Rattle.cases.specs.Run.{SameStart};
 use crate::piece::Small;
 use crate::piece::number;
 use crate::piece::wide;
 use libc::STDOUT_FILENO;
 use std::num::wrapping_add_u64;
+ghost use mathlib.Core.Path.{_≡_};
+ghost use mathlib.Core.Bool.{true, false};
+ghost use Rattle.cases.specs.Run.{SameStart};
 
 // How a case went: where the next one starts, 0 if this one is malformed, and whether the answer
 // and every output byte are those expected.

@@ -1,7 +1,4 @@
 // A session's record: written, stored where an argument names a file, and reported on.
-ghost use mathlib.Core.Path.{_≡_};
-ghost use Prim.Native.Nat.{_≤_};
-ghost use lib.ListN.{length};
 use crate::play::Terms;
 use crate::say::say;
 use crate::say::say_number;
@@ -15,6 +12,9 @@ use reporting::report;
 use reporting::text_buffer;
 use slices::part;
 use slices::put;
+ghost use mathlib.Core.Path.{_≡_};
+ghost use Prim.Native.Nat.{_≤_};
+ghost use lib.ListN.{length};
 
 // Room for a system and any record.
 fn both_buffer() -> [u8; 1065536]

@@ -10,9 +10,6 @@ mod filing;
 mod play;
 mod say;
 
-ghost use mathlib.Core.Path.{_≡_};
-ghost use Prim.Native.Nat.{_≤_};
-ghost use lib.ListN.{length};
 use crate::filing::recorded;
 use crate::play::Ends;
 use crate::play::Terms;
@@ -28,6 +25,9 @@ use reporting::system_part;
 use scheme::of_rounds;
 use slices::byte_at;
 use slices::part;
+ghost use mathlib.Core.Path.{_≡_};
+ghost use Prim.Native.Nat.{_≤_};
+ghost use lib.ListN.{length};
 
 fn main() {
     let mut input = input_buffer();

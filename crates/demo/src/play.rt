@@ -1,7 +1,4 @@
 // A session's calls: each message goes from the end that gives it to the other, and into the record's bodies.
-ghost use mathlib.Core.Path.{_≡_};
-ghost use Prim.Native.Nat.{_≤_};
-ghost use lib.ListN.{length};
 use crate::say::say_refused;
 use crate::say::say_refused_in;
 use card_state::Card;
@@ -14,6 +11,9 @@ use scheme::reply_length;
 use slices::byte_at;
 use slices::part;
 use slices::put;
+ghost use mathlib.Core.Path.{_≡_};
+ghost use Prim.Native.Nat.{_≤_};
+ghost use lib.ListN.{length};
 
 // What both ends are opened with, v and s aside.
 pub struct Terms {

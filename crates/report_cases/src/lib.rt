@@ -1,8 +1,8 @@
 // Cases of the report.
-ghost use mathlib.Core.Path.{_≡_};
-ghost use lib.ListN.{length};
 use cases::Outcome;
 use slices::part;
+ghost use mathlib.Core.Path.{_≡_};
+ghost use lib.ListN.{length};
 
 // The kind of a report.
 const REPORT: u8 = 11;

@@ -3,8 +3,6 @@ mod card;
 mod compare;
 mod judge;
 
-ghost use mathlib.Core.Path.{_≡_};
-ghost use Rattle.system.specs.System.{systemRefusal};
 use crate::card::answer_case;
 use crate::card::commit_case;
 use crate::card::reply_case;
@@ -12,6 +10,8 @@ use crate::judge::judge_case;
 use cases::Head;
 use cases::Outcome;
 use slices::part;
+ghost use mathlib.Core.Path.{_≡_};
+ghost use Rattle.system.specs.System.{systemRefusal};
 
 // The kinds of the calls.
 const COMMIT: u8 = 4;

@@ -6,9 +6,8 @@ use Rattle.slices.specs.Slices.{tabulate}
 use Rattle.sha256_block.specs.Bytes.{byteOf, bytesOf, wordAt}
 use Rattle.sha256_block.specs.Words.{_⊞_, SHR, ROTR, Ch, Maj, Σ0, Σ1, σ0, σ1}
 use Rattle.sha256_block.specs.Constants.{K, initial}
-use Rattle.sha256_block.specs.Block.{wordsOf}
+use Rattle.sha256_block.specs.Block.{wordsOf, nextWord, extended, schedule, T1, T2, shifted, round, rounds, added, compress}
 use Rattle.sha256.specs.Padding.{zeroBytes, pad, blockCount, block}
-use Rattle.sha256_block.specs.Block.{nextWord, extended, schedule, T1, T2, shifted, round, rounds, added, compress}
 use Rattle.sha256.specs.Sha256.{hashValue, joined, hashWords, sha256}
 
 -- FIPS 180-4's message of one block, "abc"

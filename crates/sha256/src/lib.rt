@@ -1,6 +1,14 @@
 // SHA-256 (FIPS 180-4) of messages of 0 to 65,535 bytes. `digest` writes the digest to memory that is lent to it, and refuses a
 // longer message or an output that is not 32 bytes long: it then returns 2 and leaves the output as it was. `hash` returns the
 // digest by value.
+mod padding;
+
+use crate::padding::block_count;
+use crate::padding::padded_block;
+use sha256_block::State;
+use sha256_block::hash_block;
+use sha256_block::initial_state;
+use slices::put;
 ghost use mathlib.Core.Path.{_≡_};
 ghost use Prim.Native.Nat.{_/_, _<_, _≤_};
 ghost use lib.ListN.{length};
@@ -10,14 +18,6 @@ ghost use Rattle.sha256.specs.Sha256.{hashValue, hashWords, sha256};
 ghost use Rattle.sha256_block.specs.State.{variables};
 ghost use Rattle.refusal.specs.Refusal.{kept};
 ghost use Rattle.sha256.specs.Digest.{digestRefusal};
-use crate::padding::block_count;
-use crate::padding::padded_block;
-use sha256_block::State;
-use sha256_block::hash_block;
-use sha256_block::initial_state;
-use slices::put;
-
-mod padding;
 
 // The hash value after the blocks that the message has whole.
 fn whole_blocks(message: &[u8]) -> State

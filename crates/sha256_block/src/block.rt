@@ -1,11 +1,4 @@
 // The hash of one block: FIPS 180-4, 6.2.2.
-ghost use mathlib.Core.Path.{_≡_};
-ghost use Prim.Native.Nat.{_+_, _*_, _≤_, _<_};
-ghost use lib.ListN.{length, take};
-ghost use Rattle.sha256_block.specs.Bytes.{wordAt};
-ghost use Rattle.sha256_block.specs.Block.{wordsOf};
-ghost use Rattle.sha256_block.specs.Block.{nextWord, T1, T2, round, added, compress};
-ghost use Rattle.sha256_block.specs.State.{variables};
 use crate::constants::constants;
 use crate::state::State;
 use crate::word::add;
@@ -15,6 +8,12 @@ use crate::word::lower_sigma1;
 use crate::word::majority;
 use crate::word::upper_sigma0;
 use crate::word::upper_sigma1;
+ghost use mathlib.Core.Path.{_≡_};
+ghost use Prim.Native.Nat.{_+_, _*_, _≤_, _<_};
+ghost use lib.ListN.{length, take};
+ghost use Rattle.sha256_block.specs.Bytes.{wordAt};
+ghost use Rattle.sha256_block.specs.Block.{wordsOf, nextWord, T1, T2, round, added, compress};
+ghost use Rattle.sha256_block.specs.State.{variables};
 
 // A byte as a word.
 fn wide(x: u8) -> u32

@@ -1,8 +1,8 @@
 // The constants of SHA-256: the round constants and the initial hash value.
+use crate::state::State;
 ghost use mathlib.Core.Path.{_≡_};
 ghost use Rattle.sha256_block.specs.Constants.{K, initial};
 ghost use Rattle.sha256_block.specs.State.{variables};
-use crate::state::State;
 
 const ROUND_CONSTANTS: [u32; 64] = [
     0x428a2f98,

@@ -1,10 +1,9 @@
 -- Each piece behind the last, to the end. Assumes nothing.
-use Prim.Native.Nat.{_+_}
+use Prim.Native.Nat.{ℕ, _+_}
 use mathlib.Core.Path.{_≡_, refl, ap, _∙_}
 use mathlib.Core.List.{List, _++_, []}
 use native.Mathlib.Omega.{arith}
 use lib.ListN.{length}
-use Prim.Native.Nat.{ℕ}
 use Rattle.slices.proofs.Parts.{placed-next, placed-all}
 use Rattle.record_form.specs.Record.{head, written}
 use borrow.Author.Needs.{needs}

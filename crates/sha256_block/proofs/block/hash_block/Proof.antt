@@ -9,8 +9,7 @@ use lib.ListN.{length, length-set}
 use borrow.Author.Needs.{needs}
 use Rattle.sha256_block.specs.State.{variables}
 use Rattle.sha256_block.specs.Words.{Variables}
-use Rattle.sha256_block.specs.Block.{wordsOf}
-use Rattle.sha256_block.specs.Block.{schedule, rounds, added, compress}
+use Rattle.sha256_block.specs.Block.{wordsOf, schedule, rounds, added, compress}
 use Rattle.sha256_block.proofs.MessageSchedule.{Holds, holds-first, holds-step, holds-all}
 use Rattle.sha256_block.proofs.Rounds.{rounds-more}
 use Rattle.slices.proofs.Tabulate.{length-tabulate}
