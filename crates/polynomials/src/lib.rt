@@ -4,11 +4,13 @@ use rows::dot;
 use system::width;
 ghost use mathlib.Core.Path.{_≡_};
 ghost use Prim.Native.Nat.{_≤_};
+ghost use lib.ListN.{length};
 ghost use Rattle.field.specs.Ops.{ops};
 ghost use Rattle.system.specs.System.{systemRefusal, F, G};
 ghost use Rattle.polynomials.specs.Monomials.{Monomials, timesRow};
 
-// The monomials of x, y, z and t in the stored order of coefficients. `sparse` says that z is 0, and only saves time.
+// Fills the row with the monomials of x, y, z and t in the stored order of coefficients. `sparse` says that z is 0, and only
+// saves time.
 fn monomials(
     q: u8,
     n: u8,
@@ -17,11 +19,11 @@ fn monomials(
     z: [u8; 96],
     t: [u8; 96],
     sparse: bool,
-) -> [u8; 4752]
-    requires { ⌜ n ≤ 96 ⌝ }
-    ensures { λ r. ⌜ Monomials (ops q) n x y z t r ⌝ }
+    row: &mut [u8],
+)
+    requires { ⌜ (n ≤ 96) × (length (now row) ≡ 4752) ⌝ }
+    ensures { λ _. ⌜ Monomials (ops q) n x y z t (now (row .exit)) ⌝ }
 {
-    let mut row = [0; 4752];
     let end = n as usize;
     let mut at = 0;
     let mut i = 0;
@@ -40,13 +42,12 @@ fn monomials(
         i += 1;
     }
     bytes::copy(&t[..end], &mut row[at..]);
-    row
 }
 
 // Each polynomial's coefficients times the monomials.
-fn products(system: &[u8], monomials: [u8; 4752]) -> [u8; 96]
-    requires { ⌜ systemRefusal (now system) ≡ 0 ⌝ }
-    ensures { λ r. ⌜ r ≡ timesRow (now (system .entry)) monomials ⌝ }
+fn products<'a>(system: &'a [u8], row: &'a [u8]) -> [u8; 96]
+    requires { ⌜ (systemRefusal (now system) ≡ 0) × (length (now row) ≡ 4752) ⌝ }
+    ensures { λ r. ⌜ r ≡ timesRow (now (system .entry)) (now (row .entry)) ⌝ }
 {
     let mut out = [0; 96];
     let w = width(system[1]);
@@ -55,7 +56,7 @@ fn products(system: &[u8], monomials: [u8; 4752]) -> [u8; 96]
     let mut l = 0;
     while l < m {
         let next = at + w;
-        out[l] = dot(system[0], &system[at..next], &monomials);
+        out[l] = dot(system[0], &system[at..next], row);
         at = next;
         l += 1;
     }
@@ -67,10 +68,9 @@ pub fn f(system: &[u8], x: [u8; 96]) -> [u8; 96]
     requires { ⌜ systemRefusal (now system) ≡ 0 ⌝ }
     ensures { λ r. ⌜ r ≡ F (now (system .entry)) x ⌝ }
 {
-    products(
-        system,
-        monomials(system[0], system[1], x, x, [0; 96], x, true),
-    )
+    let mut row = [0; 4752];
+    monomials(system[0], system[1], x, x, [0; 96], x, true, &mut row);
+    products(system, &row)
 }
 
 // G(x, y).
@@ -78,8 +78,7 @@ pub fn g(system: &[u8], x: [u8; 96], y: [u8; 96]) -> [u8; 96]
     requires { ⌜ systemRefusal (now system) ≡ 0 ⌝ }
     ensures { λ r. ⌜ r ≡ G (now (system .entry)) x y ⌝ }
 {
-    products(
-        system,
-        monomials(system[0], system[1], x, y, y, [0; 96], false),
-    )
+    let mut row = [0; 4752];
+    monomials(system[0], system[1], x, y, y, [0; 96], false, &mut row);
+    products(system, &row)
 }

@@ -20,27 +20,24 @@ use Rattle.polynomials.proofs.products.Statement.{statement}
 use Rattle.polynomials.proofs.products.Tie as tie
 
 abbrev Inv-loop : tie.InvT-loop
-Inv-loop system monomials out₀ w m at₀ l₀ out at l =
+Inv-loop system row out₀ w m at₀ l₀ out at l =
     (w ≡ width (nOf system)) × (m ≡ mOf system) × (at ≡ 3 + l * width (nOf system)) × (l ≤ m) ×
-    (out ≡ vector l (λ i. sum (opsOf system) (width (nOf system)) (λ k. (opsOf system) .mul (system ! (3 + i * width (nOf system) + k)) (monomials ! k))))
+    (out ≡ vector l (λ i. sum (opsOf system) (width (nOf system)) (λ k. (opsOf system) .mul (system ! (3 + i * width (nOf system) + k)) (row ! k))))
 
 abbrev μ-loop : tie.MeasureT-loop
-μ-loop system monomials out₀ w m at₀ l₀ out at l = m - l
+μ-loop system row out₀ w m at₀ l₀ out at l = m - l
 
 -- ---- what is known at the start
 
 system-of : (c : tie.In-loop Inv-loop μ-loop) → List ℕ
-system-of c = c .before .before .before .before .before .before .args .system .now
+system-of c = c .before .before .before .before .before .before .before .args .system .now
 
 checked : (c : tie.In-loop Inv-loop μ-loop) → Accepted (system-of c)
 unfolding system-of
-checked c = accepted _ (c .before .before .before .before .before .before .pre)
+checked c = accepted _ (c .before .before .before .before .before .before .before .pre .0)
 
-checked′ : (c : tie.After-loop Inv-loop μ-loop) → Accepted (c .before .before .before .before .before .before .args .system .now)
-checked′ c = accepted _ (c .before .before .before .before .before .before .pre)
-
-monomial-count : (c : tie.In-loop Inv-loop μ-loop) → length (c .before .before .before .before .before .before .args .t2) ≡ 4752
-monomial-count c = search needs
+checked′ : (c : tie.After-loop Inv-loop μ-loop) → Accepted (c .before .before .before .before .before .before .before .args .system .now)
+checked′ c = accepted _ (c .before .before .before .before .before .before .before .pre .0)
 
 -- the next polynomial's coefficients are within the system
 row-fits : (l m w : ℕ) → l < m → l * w + w ≤ m * w
@@ -56,13 +53,13 @@ width-small : (c : tie.In-loop Inv-loop μ-loop) → c .before .before .before .
 unfolding system-of width
 width-small c = let k = checked c in omega (arith, width-bound (nOf (system-of c)) 96 (k .n-high))
 
-part-count : (c : tie.After-monomials Inv-loop μ-loop) →
-    let at = c .before .before .before .before .loop .at in
-    let next = at + c .before .before .before .before .before .before .width .result in
-    length (take (next - at) (drop at (system-of (c .before .before .before)))) ≡ c .before .before .before .before .before .before .width .result
+part-count : (c : tie.After-dot-arg Inv-loop μ-loop) →
+    let at = c .before .before .before .loop .at in
+    let next = at + c .before .before .before .before .before .width .result in
+    length (take (next - at) (drop at (system-of (c .before .before)))) ≡ c .before .before .before .before .before .width .result
 unfolding system-of
 part-count c =
-    length-part (system-of (c .before .before .before)) (c .before .before .before .before .loop .at) _ (omega arith) (row-within (c .before .before .before)) ∙
+    length-part (system-of (c .before .before)) (c .before .before .before .loop .at) _ (omega arith) (row-within (c .before .before)) ∙
     omega arith
 
 -- a product with a part of the system, said of the system
@@ -81,23 +78,22 @@ products-spec =
     (tie.spec
     Inv-loop
     μ-loop
-    (λ c. let k = accepted _ (c .before .before .pre) in omega arith)
+    (λ c. let k = accepted _ (c .before .before .before .pre .0) in omega arith)
     (λ c κs. search needs)
-    (λ c. let k = accepted _ (c .before .before .before .before .pre) in omega arith)
-    (λ c. omega (arith, c .shared-slice-known3 .given 2))
+    (λ c. let k = accepted _ (c .before .before .before .before .before .pre .0) in omega arith)
+    (λ c. omega (arith, c .shared-slice-known4 .given 2))
     (λ c. (c .before .width .ensures, refl, omega arith, omega arith, vector-start _))
     (λ c. omega (arith, row-within c, width-small c))
     (λ c. let k = checked (c .before) in omega arith)
     (λ c. omega arith)
     (λ c. omega arith)
     (λ c. omega (arith, row-within (c .before)))
-    (λ c. search needs)
-    (λ c κs. rw (part-count c) (omega (arith, width-small (c .before .before .before), monomial-count (c .before .before .before))))
-    (λ c. let k = checked (c .before .before .before .before) in omega arith)
-    (λ c. let k = checked (c .before .before .before .before) in omega arith)
+    (λ c κs. rw (part-count c) (omega (arith, width-small (c .before .before), c .before .before .before .before .before .before .before .before .before .pre .1)))
+    (λ c. let k = checked (c .before .before .before) in omega arith)
+    (λ c. let k = checked (c .before .before .before) in omega arith)
     (λ c. omega arith)
     (λ c.
-    let inside = c .before .before .before .before in
+    let inside = c .before .before .before in
     let at = inside .before .loop in
     let k = checked inside in
     let w = width (nOf (system-of inside)) in (
@@ -106,6 +102,6 @@ products-spec =
       omega arith,
       omega arith,
       vector-step _ _ (at .l) _ (at .inv .4) (omega arith)
-          (row-product (qOf (system-of inside)) (system-of inside) (inside .before .before .before .before .before .before .args .t2) (at .at) _ w _ _ (c .dot .ensures) (part-count (c .before) ∙ at .inv .0) (omega arith) (at .inv .2)),
+          (row-product (qOf (system-of inside)) (system-of inside) (inside .before .before .before .before .before .before .before .args .row .now) (at .at) _ w _ _ (c .dot .ensures) (part-count (c .before) ∙ at .inv .0) (omega arith) (at .inv .2)),
     ))
     (λ c. let k = checked′ c in vector-end _ _ (c .before .loop .l) _ (c .before .loop .inv .4) (omega arith)))
