@@ -9,8 +9,8 @@ ghost use Rattle.field.specs.Ops.{ops};
 ghost use Rattle.system.specs.System.{systemRefusal, F, G};
 ghost use Rattle.polynomials.specs.Monomials.{Monomials, timesRow};
 
-// Fills the row with the monomials of x, y, z and t in the stored order of coefficients. `sparse` says that z is 0, and only
-// saves time.
+// Fills the row with the monomials of x, y, z and t in the stored order of coefficients: 4,752 for 96 unknowns, the most.
+// `sparse` says that z is 0, and only saves time.
 fn monomials(
     q: u8,
     n: u8,
