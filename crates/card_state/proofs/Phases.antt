@@ -4,13 +4,13 @@ use mathlib.Core.Path.{_≡_, refl}
 use mathlib.Core.Bool.{Bool, true, false, cond}
 use mathlib.Core.List.{List, _++_, _∷_, []}
 use native.Mathlib.Omega.{arith}
-use lib.Dec.{eqb}
+use lib.Dec.{eqb, ltb}
 use borrow.Author.Tests.{lt-ltb, le-ltb}
 use Rattle.slices.specs.Slices.{zeros}
 use Rattle.session_state.specs.State.{nextCount}
 use Rattle.card_state.specs.declared.session.CardPhase.the-variants.{AnswerAlpha, Reply}
 use Rattle.card_state.specs.declared.session.Card.{Card}
-use Rattle.card_state.specs.Card.{phaseNumber, closedCard, cardWith, openedCard, committedCard, answeredCard, nextCard, repliedCard}
+use Rattle.card_state.specs.Card.{phaseNumber, closedCard, noLent, cardWith, openedCard, committedCard, answeredCard, nextCard, repliedCard}
 
 -- the session is not closed
 abbrev pub Open : Card → Type 0
@@ -51,3 +51,16 @@ numbers card =
 pub closed-zero : numbers closedCard ≡ zeros 583
 unfolding numbers closedCard phaseNumber zeros
 closed-zero = refl
+
+-- what is held for a round, one behind the other: its vectors and ρ
+unfoldable pub roundNumbers : Card → List ℕ
+roundNumbers card = card .r0 ++ card .t0 ++ card .e0 ++ card .e1 ++ card .rho0 ++ card .rho1 ++ card .rho2
+
+-- "A reply zeroes that round's vectors and ρ.", the last reply too
+pub replied-zero : (card : Card) → roundNumbers (repliedCard card) ≡ zeros 480
+unfolding roundNumbers repliedCard nextCard cardWith noLent closedCard zeros
+replied-zero card = go (ltb (nextCount (card .round)) (card .rounds))
+  where
+    go : (more : Bool) → roundNumbers (cond more (nextCard card) closedCard) ≡ zeros 480
+    go true = refl
+    go false = refl

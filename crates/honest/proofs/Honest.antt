@@ -1,14 +1,12 @@
 -- Honest rounds at their bytes, for every system that is not refused: what the card sends is accepted, and has its lengths and elements. Assumes nothing.
 use Prim.Native.Nat.{ℕ, _+_, _≤_}
-use mathlib.Core.Path.{_≡_, refl, ap₂, _∙_}
+use mathlib.Core.Path.{_≡_, ap₂, _∙_}
 use mathlib.Core.Bool.{true}
 use mathlib.Core.List.{List, _∷_}
-use native.Mathlib.Omega.{arith}
 use lib.Dec.{eqb}
 use lib.ListN.{length, take}
 use Rattle.slices.proofs.Booleans.{either}
-use Rattle.slices.specs.Slices.{_!_, tabulate}
-use Rattle.field.specs.Vector.{vector, allBelow}
+use Rattle.field.specs.Vector.{allBelow}
 use Rattle.field.proofs.Fields.{field}
 use Rattle.system.specs.System.{qOf, nOf, mOf, opsOf, systemRefusal, F}
 use Rattle.system.proofs.SystemLayout.{accepted}
@@ -28,7 +26,7 @@ use Rattle.exchange.specs.Messages.{lentIn, accepts}
 use Rattle.exchange.specs.Messages.{threeCommitments, fiveCommitments, replyThreeBytes, middleBytes, replyFiveBytes}
 use Rattle.exchange.specs.Card.{threeVectors, threeCommitted, threeReplied, fiveCommitted}
 use Rattle.exchange.proofs.Formed.{size-is, Lends, lent-is, are-three, are-two, replied-is}
-use Rattle.exchange.proofs.ReadBack.{length-bytes, reads-vector, reads-tabulate, same-verdict, AreThree, AreTwo, IsReplyThree, IsReplyFive, IsMiddle}
+use Rattle.exchange.proofs.ReadBack.{length-bytes, AreThree, AreTwo, IsReplyThree, IsReplyFive, IsMiddle}
 use Rattle.exchange.proofs.ReadBack.{length-three-commitments, length-five-commitments, three-commitments-back, five-commitments-back}
 use Rattle.exchange.proofs.ReadBack.{reply-three-length, reply-three-back, reply-three-below, reply-five-length, reply-five-back, reply-five-below}
 use Rattle.exchange.proofs.ReadBack.{middle-length, middle-back, middle-below}
@@ -104,31 +102,6 @@ module _ (b : List ℕ) (good : systemRefusal b ≡ 0) where
           let l = lentIn (nOf b) (mOf b) lent in
           rw (five-commitments-back _ five-are, middle-back (opsOf b) (nOf b) (mOf b) α (fiveMiddle b lent α) (a .n-high) (a .m-high) (middle-is lent h α), reply-five-back (opsOf b) (nOf b) (fiveReplied b s lent challenge) (a .n-high) (five-reply-is h challenge))
           (accepted-five b v (l .rhos) good α s (l .r0) (l .t0) (l .e0) hs (k .t0-is) (k .e0-is) key challenge small)
-
-      -- ---- and with the commitments, α, t1 and e1 as the carrier holds them, zero beyond their lengths
-
-      pub honest-three-held : (middle : List ℕ) (challenge : ℕ) → challenge ≤ 2 →
-          let c = threeCommitments (threeCommitted b s lent) in
-          accepts b 3 v (vector (length c) (λ i. c ! i)) middle challenge (replyThreeBytes (nOf b) (mOf b) (threeReplied b s lent challenge)) ≡ true
-      honest-three-held middle challenge small =
-          let c = threeCommitments (threeCommitted b s lent) in
-          let long : length c ≡ 96 = length-three-commitments _ three-are in
-          same-verdict b 3 v (vector (length c) (λ i. c ! i)) c middle middle challenge _ (reads-vector c (omega arith)) (λ i. refl) ∙
-          honest-three middle challenge small
-
-      pub honest-five-held : (α challenge : ℕ) → challenge ≤ 1 →
-          let c = fiveCommitments (fiveCommitted b s lent) in
-          let middle = α ∷ middleBytes (nOf b) (mOf b) (fiveMiddle b lent α) in
-          accepts b 5 v (vector (length c) (λ i. c ! i)) (tabulate 193 (λ i. middle ! i)) challenge (replyFiveBytes (nOf b) (fiveReplied b s lent challenge)) ≡ true
-      honest-five-held α challenge small =
-          let a = accepted b good in
-          let c = fiveCommitments (fiveCommitted b s lent) in
-          let middle = α ∷ middleBytes (nOf b) (mOf b) (fiveMiddle b lent α) in
-          let long : length c ≡ 64 = length-five-commitments _ five-are in
-          let short = middle-long lent h α in
-          same-verdict b 5 v (vector (length c) (λ i. c ! i)) c (tabulate 193 (λ i. middle ! i)) middle challenge _ (reads-vector c (omega arith))
-          (reads-tabulate 193 middle (omega (arith, a .n-high, a .m-high))) ∙
-          honest-five α challenge small
 
     -- ---- has its lengths and elements
 

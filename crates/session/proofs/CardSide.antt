@@ -1,7 +1,7 @@
 -- The card's calls along an honest session: each leaves the two ends linked, and none is refused when it is due. Assumes nothing.
 use Prim.Native.Nat.{ℕ, zero, suc, _+_, _≤_, _<_}
 use mathlib.Core.Path.{_≡_, refl, sym, ap, subst, _∙_}
-use mathlib.Core.Bool.{Bool, true, false, cond}
+use mathlib.Core.Bool.{true, cond}
 use mathlib.Core.List.{List}
 use mathlib.Core.Logic.{⊎-elim}
 use mathlib.Core.Option.{some}
@@ -10,7 +10,7 @@ use native.Mathlib.Decide.{decLe}
 use native.Mathlib.Omega.{arith}
 use lib.Dec.{eqb}
 use lib.ListN.{length, take}
-use borrow.Author.Tests.{eqb-true, eqb-false, ne-eqb, lt-ltb, le-ltb}
+use borrow.Author.Tests.{ne-eqb, lt-ltb, le-ltb}
 use Rattle.field.specs.Vector.{allBelow}
 use Rattle.system.specs.System.{qOf, nOf, mOf, systemRefusal}
 use Rattle.system.proofs.SystemLayout.{at-all-below, sizes-has, sizes-true, accepted}
@@ -29,22 +29,17 @@ use Rattle.card_state.specs.declared.session.Card.{Card}
 use Rattle.card_state.specs.Card as CardCalls
 use Rattle.card_state.specs.Card.{phaseNumber, openedCard, closedCard, noLent, cardWith, heldLent, heldVectors, committedCard, sentCommitments, answeredCard, sentMiddle, nextCard, repliedCard, sentReply, commitRefusal, alphaRefusal, replyRefusal}
 use Rattle.card_state.proofs.Taken.{commit-taken, commit-due, alpha-taken, alpha-due, reply-taken, reply-due}
-use Rattle.session.specs.Session.{Opening, Given, Asked, World, put, cardMoves}
-use Rattle.session.proofs.Logs.{Clear, put-there, put-stays, put-clear, clear-next}
+use Rattle.session.specs.Session.{Opening, Given, Asked, World, cardMoves}
+use Rattle.session.proofs.Logs.{Clear, put-there, put-stays, put-clear, clear-next, stays-on}
+use Rattle.session.proofs.CarrierHistory.{by-scheme, card-moved}
+use Rattle.session.proofs.CardHistory.{openCard, withCommitments, withMiddles, withReplies, CardHistory, commit-history, answer-history, reply-history}
 use Rattle.session.proofs.States as St
-use Rattle.session.proofs.States.{GivenStays, Link, CardState, Past, past-stays, carrier-stays, asked-same}
-
-pub by-scheme : {P : Type 0} (scheme : ℕ) → (scheme ≡ 3 → P) → ((scheme ≡ 3 → ⊥) → P) → P
-by-scheme {P = P} scheme three other = go (eqb scheme 3) refl
-  where
-    go : (t : Bool) → eqb scheme 3 ≡ t → P
-    go true e = three (eqb-true scheme 3 e)
-    go false e = other (eqb-false scheme 3 e)
+use Rattle.session.proofs.States.{GivenStays, Link, CardState, Past, past-stays, asked-same}
 
 module _ (o : Opening) where
   -- ---- the card's sessions
 
-  pub card-opens : St.openCard o ≡ St.freshCard o 0
+  pub card-opens : openCard o ≡ St.freshCard o 0
   unfolding St.freshCard openedCard cardWith noLent
   card-opens = refl
 
@@ -140,25 +135,34 @@ module _ (o : Opening) where
 
   -- ---- a call of the card leaves the ends linked
 
-  moved : (w : World) (card : Card) (r : ℕ) (g : Given) → Link o w → GivenStays o (w .given) g → w .cardRound ≤ r → CardState o g (w .asked) card r →
-      ((k : ℕ) → k < r → Past o g (w .asked) k) → Link o (cardMoves w card r g)
-  moved w card r g l stays later state past =
-      record { card-state = state; past = past; carrier-state = carrier-stays o stays (l .carrier-state); behind = omega (arith, l .behind, later) }
+  moved : (w : World) (card : Card) (r : ℕ) (g : Given) → Link o w → GivenStays o (w .history .given) g → w .history .cardRound ≤ r →
+      CardState o g (w .history .asked) card r → ((k : ℕ) → k < r → Past o g (w .history .asked) k) → CardHistory o (cardMoves w card r g) → Link o (cardMoves w card r g)
+  moved w card r g l stays later state past history =
+      record {
+        card-state = state;
+        past = past;
+        card-history = history;
+        carrier-history = card-moved o w (cardMoves w card r g) (l .carrier-history) refl refl refl refl refl;
+        taken-given =
+            record {
+              commitments-given = stays-on _ _ _ (l .taken-given .commitments-given) (stays .commitments-stay);
+              middles-given = stays-on _ _ _ (l .taken-given .middles-given) (stays .middles-stay);
+            };
+        all-accepted = l .all-accepted;
+        behind = omega (arith, l .behind, later);
+      }
 
-  kept-past : (w : World) (g : Given) → Link o w → GivenStays o (w .given) g → (k : ℕ) → k < w .cardRound → Past o g (w .asked) k
-  kept-past w g l stays k h = past-stays o k stays (asked-same o (w .asked)) (l .past k h)
+  kept-past : (w : World) (g : Given) → Link o w → GivenStays o (w .history .given) g → (k : ℕ) → k < w .history .cardRound → Past o g (w .history .asked) k
+  kept-past w g l stays k h = past-stays o k stays (asked-same o (w .history .asked)) (l .past k h)
 
   -- ---- commit
-
-  abbrev pub withCommitments : Given → ℕ → List ℕ → Given
-  withCommitments g r c = record { commitments = put (g .commitments) r c; middles = g .middles; replies = g .replies }
 
   lends-of : (card : Card) (r : ℕ) (lent : List ℕ) → card ≡ St.freshCard o r → allBelow (card .q) (take (card .n + card .n + card .m) lent) ≡ true → Lends (o .system) lent
   unfolding St.freshCard cardWith openedCard
   lends-of card r lent e h = rw e at h
 
   committed-state : (g : Given) (a : Asked) (card : Card) (r : ℕ) (lent : List ℕ) → Fresh g card r → Lends (o .system) lent →
-      CardState o (withCommitments g r (sentCommitments card (o .system) lent)) a (committedCard card (o .system) lent) r
+      CardState o (withCommitments o g r (sentCommitments card (o .system) lent)) a (committedCard card (o .system) lent) r
   committed-state g a card r lent f lends =
       let c = sentCommitments card (o .system) lent in
       let given = put-there (g .commitments) r c ∙ ap some (ap (λ (k : Card). sentCommitments k (o .system) lent) (f .is) ∙ sent-commitments-is r lent) in
@@ -168,45 +172,42 @@ module _ (o : Opening) where
       (λ three. St.is-ready lent (f .below) lends (is ∙ committed-is r lent Reply (rw three)) given clear (St.no-middle three) (clear-next (g .middles) r (f .no-middles)) (f .no-replies))
       (λ other. St.is-committed lent (f .below) other lends (is ∙ committed-is r lent AnswerAlpha (rw (ne-eqb (o .scheme) 3 other))) given clear (f .no-middles) (f .no-replies))
 
-  commitments-stay : (g : Given) (r : ℕ) (c : List ℕ) → Clear (g .commitments) r → GivenStays o g (withCommitments g r c)
+  commitments-stay : (g : Given) (r : ℕ) (c : List ℕ) → Clear (g .commitments) r → GivenStays o g (withCommitments o g r c)
   commitments-stay g r c clear = record { commitments-stay = put-stays (g .commitments) r c clear; middles-stay = λ k x e. e; replies-stay = λ k x e. e }
 
   pub commit-linked : (w : World) (lent : List ℕ) (out : ℕ) → Link o w → commitRefusal (w .card) (o .system) lent out ≡ 0 →
-      Link o (cardMoves w (committedCard (w .card) (o .system) lent) (w .cardRound) (withCommitments (w .given) (w .cardRound) (sentCommitments (w .card) (o .system) lent)))
+      Link o (cardMoves w (committedCard (w .card) (o .system) lent) (w .history .cardRound) (withCommitments o (w .history .given) (w .history .cardRound) (sentCommitments (w .card) (o .system) lent)))
   unfolding Known
   commit-linked w lent out l none =
       let k = commit-taken (w .card) (o .system) lent out none in
-      let f : Fresh (w .given) (w .card) (w .cardRound) = known-at _ _ _ _ (l .card-state) 1 (k .due) in
-      let lends = lends-of (w .card) (w .cardRound) lent (f .is) (k .elements) in
-      let stays = commitments-stay (w .given) (w .cardRound) (sentCommitments (w .card) (o .system) lent) (f .no-commitments) in
-      moved w _ (w .cardRound) _ l stays (le-refl _) (committed-state (w .given) (w .asked) (w .card) (w .cardRound) lent f lends) (kept-past w _ l stays)
+      let f : Fresh (w .history .given) (w .card) (w .history .cardRound) = known-at _ _ _ _ (l .card-state) 1 (k .due) in
+      let lends = lends-of (w .card) (w .history .cardRound) lent (f .is) (k .elements) in
+      let stays = commitments-stay (w .history .given) (w .history .cardRound) (sentCommitments (w .card) (o .system) lent) (f .no-commitments) in
+      moved w _ (w .history .cardRound) _ l stays (le-refl _) (committed-state (w .history .given) (w .history .asked) (w .card) (w .history .cardRound) lent f lends) (kept-past w _ l stays)
+      (commit-history o w (o .system) lent _ (l .card-history) (k .due))
 
   -- ---- reply to α
 
-  abbrev pub withMiddles : Given → ℕ → List ℕ → Given
-  withMiddles g r l = record { commitments = g .commitments; middles = put (g .middles) r l; replies = g .replies }
-
   answered-state : (g : Given) (a : Asked) (card : Card) (r α : ℕ) → Committed g card r → a .alphas r ≡ some α →
-      CardState o (withMiddles g r (sentMiddle card (o .system) α)) a (answeredCard card) r
+      CardState o (withMiddles o g r (sentMiddle card (o .system) α)) a (answeredCard card) r
   answered-state g a card r α f asked =
       let l = sentMiddle card (o .system) α in
       let given = put-there (g .middles) r l ∙ ap some (ap (λ (k : Card). sentMiddle k (o .system) α) (f .is) ∙ sent-middle-is AnswerAlpha r (f .lent) α) in
       St.is-ready (f .lent) (f .below) (f .lends) (ap answeredCard (f .is) ∙ answered-is r (f .lent)) (f .commitments-given) (f .no-more-commitments)
       (St.with-middle (f .five) α asked given) (put-clear (g .middles) r l (f .no-middles)) (f .no-replies)
 
-  pub answer-linked : (w : World) (α out : ℕ) → Link o w → alphaRefusal (w .card) (o .system) α out ≡ 0 → w .asked .alphas (w .cardRound) ≡ some α →
-      Link o (cardMoves w (answeredCard (w .card)) (w .cardRound) (withMiddles (w .given) (w .cardRound) (sentMiddle (w .card) (o .system) α)))
+  pub answer-linked : (w : World) (α out : ℕ) → Link o w → alphaRefusal (w .card) (o .system) α out ≡ 0 → w .history .asked .alphas (w .history .cardRound) ≡ some α →
+      Link o (cardMoves w (answeredCard (w .card)) (w .history .cardRound) (withMiddles o (w .history .given) (w .history .cardRound) (sentMiddle (w .card) (o .system) α)))
   unfolding Known
   answer-linked w α out l none asked =
-      let f : Committed (w .given) (w .card) (w .cardRound) = known-at _ _ _ _ (l .card-state) 2 (alpha-taken (w .card) (o .system) α out none .due) in
-      let stays : GivenStays o (w .given) (withMiddles (w .given) (w .cardRound) (sentMiddle (w .card) (o .system) α)) =
-      record { commitments-stay = λ k x e. e; middles-stay = put-stays (w .given .middles) (w .cardRound) _ (f .no-middles); replies-stay = λ k x e. e } in
-      moved w _ (w .cardRound) _ l stays (le-refl _) (answered-state (w .given) (w .asked) (w .card) (w .cardRound) α f asked) (kept-past w _ l stays)
+      let k = alpha-taken (w .card) (o .system) α out none in
+      let f : Committed (w .history .given) (w .card) (w .history .cardRound) = known-at _ _ _ _ (l .card-state) 2 (k .due) in
+      let stays : GivenStays o (w .history .given) (withMiddles o (w .history .given) (w .history .cardRound) (sentMiddle (w .card) (o .system) α)) =
+      record { commitments-stay = λ k x e. e; middles-stay = put-stays (w .history .given .middles) (w .history .cardRound) _ (f .no-middles); replies-stay = λ k x e. e } in
+      moved w _ (w .history .cardRound) _ l stays (le-refl _) (answered-state (w .history .given) (w .history .asked) (w .card) (w .history .cardRound) α f asked) (kept-past w _ l stays)
+      (answer-history o w _ (l .card-history) (k .due))
 
   -- ---- reply
-
-  abbrev pub withReplies : Given → ℕ → List ℕ → Given
-  withReplies g r l = record { commitments = g .commitments; middles = g .middles; replies = put (g .replies) r l }
 
   rounds-kept : (r : ℕ) (lent : List ℕ) → St.heldCard o Reply r lent .rounds ≡ o .rounds
   unfolding St.heldCard cardWith openedCard
@@ -234,7 +235,7 @@ module _ (o : Opening) where
       simp (round-kept r lent, rounds-kept r lent, count, le-ltb (r + 1) (o .rounds) last)
 
   replied-state : (g : Given) (a : Asked) (card : Card) (r challenge : ℕ) → Ready g a card r → o .rounds < 256 →
-      CardState o (withReplies g r (sentReply card challenge)) a (repliedCard card) (r + 1)
+      CardState o (withReplies o g r (sentReply card challenge)) a (repliedCard card) (r + 1)
   replied-state g a card r challenge f small =
       let l = sentReply card challenge in
       let clear = put-clear (g .replies) r l (f .no-replies) in
@@ -247,30 +248,31 @@ module _ (o : Opening) where
       ]
 
   pub reply-linked : (w : World) (challenge out : ℕ) → Link o w → o .rounds < 256 → replyRefusal (w .card) challenge out ≡ 0 →
-      w .asked .challenges (w .cardRound) ≡ some challenge →
-      Link o (cardMoves w (repliedCard (w .card)) (w .cardRound + 1) (withReplies (w .given) (w .cardRound) (sentReply (w .card) challenge)))
+      w .history .asked .challenges (w .history .cardRound) ≡ some challenge →
+      Link o (cardMoves w (repliedCard (w .card)) (w .history .cardRound + 1) (withReplies o (w .history .given) (w .history .cardRound) (sentReply (w .card) challenge)))
   unfolding Known
   reply-linked w challenge out l small none asked =
-      let r = w .cardRound in
+      let r = w .history .cardRound in
       let k = reply-taken (w .card) challenge out none in
-      let f : Ready (w .given) (w .asked) (w .card) r = known-at _ _ _ _ (l .card-state) 3 (k .due) in
-      let g = withReplies (w .given) r (sentReply (w .card) challenge) in
+      let f : Ready (w .history .given) (w .history .asked) (w .card) r = known-at _ _ _ _ (l .card-state) 3 (k .due) in
+      let g = withReplies o (w .history .given) r (sentReply (w .card) challenge) in
       let scheme : w .card .scheme ≡ o .scheme = ap (λ (c : Card). c .scheme) (f .is) ∙ scheme-kept Reply r (f .lent) in
-      let stays : GivenStays o (w .given) g =
-      record { commitments-stay = λ k x e. e; middles-stay = λ k x e. e; replies-stay = put-stays (w .given .replies) r _ (f .no-replies) } in
-      let last : Past o g (w .asked) r =
+      let stays : GivenStays o (w .history .given) g =
+      record { commitments-stay = λ k x e. e; middles-stay = λ k x e. e; replies-stay = put-stays (w .history .given .replies) r _ (f .no-replies) } in
+      let last : Past o g (w .history .asked) r =
       record {
         lent = f .lent;
         challenge = challenge;
         lends = f .lends;
         commitments-given = f .commitments-given;
-        middle-given = St.middle-stays o r (f .lent) stays (asked-same o (w .asked)) (f .middle-given);
+        middle-given = St.middle-stays o r (f .lent) stays (asked-same o (w .history .asked)) (f .middle-given);
         challenge-given = asked;
         challenge-value = rw scheme at (k .value);
-        reply-given = put-there (w .given .replies) r _ ∙ ap some (ap (λ (c : Card). sentReply c challenge) (f .is) ∙ sent-reply-is Reply r (f .lent) challenge);
+        reply-given = put-there (w .history .given .replies) r _ ∙ ap some (ap (λ (c : Card). sentReply c challenge) (f .is) ∙ sent-reply-is Reply r (f .lent) challenge);
       } in
-      moved w _ (r + 1) g l stays (omega arith) (replied-state (w .given) (w .asked) (w .card) r challenge f small)
+      moved w _ (r + 1) g l stays (omega arith) (replied-state (w .history .given) (w .history .asked) (w .card) r challenge f small)
       (λ j h. ⊎-elim (λ (same : j ≡ r). rw same last) (λ (before : j < r). kept-past w g l stays j before) (eq-or-lt-of-le (omega arith)))
+      (reply-history o w _ small (l .card-history) (k .due))
 
   -- ---- a call that is due is not refused
 
@@ -280,26 +282,26 @@ module _ (o : Opening) where
         Elements (qOf (o .system)) (take (nOf (o .system) + nOf (o .system) + mOf (o .system)) lent) → commitRefusal (w .card) (o .system) lent out ≡ 0
     unfolding St.freshCard cardWith openedCard phaseNumber Known
     commit-goes w lent out l phase long room elements =
-        let f : Fresh (w .given) (w .card) (w .cardRound) = known-at _ _ _ _ (l .card-state) 1 phase in
+        let f : Fresh (w .history .given) (w .card) (w .history .cardRound) = known-at _ _ _ _ (l .card-state) 1 phase in
         ap (λ (k : Card). commitRefusal k (o .system) lent out) (f .is) ∙
-        commit-due (St.freshCard o (w .cardRound)) (o .system) lent out
+        commit-due (St.freshCard o (w .history .cardRound)) (o .system) lent out
         (record { due = refl; good = good; fits = sizes-has (o .system) _ _ _ refl refl refl; lent-length = long; room = room; elements = at-all-below _ _ elements })
 
     pub answer-goes : (w : World) (α out : ℕ) → Link o w → phaseNumber (w .card .phase) ≡ 2 → out ≡ nOf (o .system) + mOf (o .system) → α < qOf (o .system) →
         alphaRefusal (w .card) (o .system) α out ≡ 0
     unfolding St.heldCard cardWith openedCard phaseNumber Known
     answer-goes w α out l phase room element =
-        let f : Committed (w .given) (w .card) (w .cardRound) = known-at _ _ _ _ (l .card-state) 2 phase in
+        let f : Committed (w .history .given) (w .card) (w .history .cardRound) = known-at _ _ _ _ (l .card-state) 2 phase in
         ap (λ (k : Card). alphaRefusal k (o .system) α out) (f .is) ∙
-        alpha-due (St.heldCard o AnswerAlpha (w .cardRound) (f .lent)) (o .system) α out
+        alpha-due (St.heldCard o AnswerAlpha (w .history .cardRound) (f .lent)) (o .system) α out
         (record { due = refl; good = good; fits = sizes-has (o .system) _ _ _ refl refl refl; room = room; element = element })
 
     pub reply-goes : (w : World) (challenge out : ℕ) → Link o w → phaseNumber (w .card .phase) ≡ 3 →
         out ≡ replyLength (o .scheme) (nOf (o .system)) (mOf (o .system)) → challenge < challenges (o .scheme) → replyRefusal (w .card) challenge out ≡ 0
     unfolding St.heldCard cardWith openedCard phaseNumber Known
     reply-goes w challenge out l phase room value =
-        let f : Ready (w .given) (w .asked) (w .card) (w .cardRound) = known-at _ _ _ _ (l .card-state) 3 phase in
+        let f : Ready (w .history .given) (w .history .asked) (w .card) (w .history .cardRound) = known-at _ _ _ _ (l .card-state) 3 phase in
         let k = accepted (o .system) good in
         ap (λ (c : Card). replyRefusal c challenge out) (f .is) ∙
-        reply-due (St.heldCard o Reply (w .cardRound) (f .lent)) challenge out
+        reply-due (St.heldCard o Reply (w .history .cardRound) (f .lent)) challenge out
         (record { due = refl; sizes = sizes-true (qOf (o .system)) (nOf (o .system)) (mOf (o .system)) (k .is-field) (k .n-low, k .n-high) (k .m-low, k .m-high); room = room; value = value })

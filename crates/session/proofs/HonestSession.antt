@@ -1,31 +1,36 @@
 -- The claim about whole honest sessions: one theorem over the list of calls. Assumes nothing.
 use Prim.Native.Nat.{ℕ, _≤_}
-use mathlib.Core.Path.{_≡_, refl, sym, subst}
-use mathlib.Core.Bool.{Bool, true, false}
+use mathlib.Core.Path.{_≡_, refl}
 use mathlib.Core.List.{List, [], _∷_}
 use native.Mathlib.Nat.{not-suc-le-zero, le-refl}
 use native.Mathlib.Omega.{arith}
-use lib.Dec.{eqb, leb}
-use borrow.Author.Tests.{eqb-true, eqb-false, leb-true}
+use lib.Dec.{leb}
+use borrow.Author.Tests.{leb-true}
 use Rattle.slices.proofs.Booleans.{and-left, and-right}
-use Rattle.refusal.specs.Refusal.{kept}
-use Rattle.refusal.proofs.Refusals.{kept-accepted, kept-refused}
 use Rattle.scheme.specs.Scheme.{isRounds}
 use Rattle.system.specs.System.{nOf}
 use Rattle.exchange.proofs.Formed.{held-is}
 use Rattle.session_state.specs.declared.Verdict.the-variants.{Accepted}
-use Rattle.card_state.specs.declared.session.Card.{Card}
+use Rattle.card_state.specs.declared.session.CardPhase.the-variants.{Commit, AnswerAlpha, Reply}
 use Rattle.card_state.specs.Card as CardCalls
 use Rattle.card_state.proofs.Taken.{open-taken}
-use Rattle.carrier_state.specs.declared.session.Carrier.{Carrier}
+use Rattle.carrier_state.specs.declared.session.CarrierPhase.the-variants.{TakeCommitments, SetAlpha, TakeMiddle, SetChallenge, TakeReply}
 use Rattle.carrier_state.specs.Carrier as CarrierCalls
-use Rattle.session.specs.Session.{Opening, Call, commit, answerAlpha, reply, takeCommitments, setAlpha, takeMiddle, setChallenge, takeReply, Given, Asked, World, opened, refusal, effect, step, after, Unaltered, Honest, Due, Accepts, Ended, Holds}
+use Rattle.session.specs.Session.{Opening, Call, commit, answerAlpha, reply, takeCommitments, setAlpha, takeMiddle, setChallenge, takeReply, World, opened, refusal, effect, step, after}
+use Rattle.session.specs.Histories.{IsDue}
+use Rattle.session.specs.Honest.{Unaltered, Honest, Fitting, Accepts, Ended, DueGoes, Holds}
+use Rattle.session.proofs.Logs.{none-given}
+use Rattle.session.proofs.CarrierHistory as Ca
+use Rattle.session.proofs.CarrierHistory.{CarrierState}
+use Rattle.session.proofs.CardHistory as Cd
+use Rattle.session.proofs.CardHistory.{CardGoes}
+use Rattle.session.proofs.Histories.{card-started, carrier-started, card-number, carrier-number, stepped}
 use Rattle.session.proofs.States as St
-use Rattle.session.proofs.States.{Link, CardState, CarrierState}
+use Rattle.session.proofs.States.{Link}
 use Rattle.session.proofs.CardSide.{card-opens, commit-linked, answer-linked, reply-linked, commit-goes, answer-goes, reply-goes}
 use Rattle.session.proofs.CarrierSide as C
 use Rattle.session.proofs.Verdicts as Verdicts
-use Rattle.session.proofs.Verdicts.{Opens}
+use Rattle.session.proofs.Verdicts.{Opens, of-carrier}
 
 -- ---- openings that are not refused
 
@@ -50,14 +55,40 @@ start o k =
     record {
       card-state = St.is-fresh (k .some-rounds) (card-opens o) (λ i h. refl) (λ i h. refl) (λ i h. refl);
       past = λ i h. absurd (not-suc-le-zero h);
-      carrier-state = St.commitments-due (k .some-rounds) (C.carrier-opens o) (λ i h. refl) (λ i h. refl);
+      card-history = card-started o (k .some-rounds);
+      carrier-history = carrier-started o (of-carrier o k);
+      taken-given = record { commitments-given = λ i x e. absurd (none-given x e); middles-given = λ i x e. absurd (none-given x e) };
+      all-accepted = λ i h. absurd (not-suc-le-zero h);
       behind = le-refl 0;
     }
+
+-- ---- the phase in which a call is due
+
+unfoldable pub AtPhase : World → Call → Type 0
+AtPhase w (commit b lent out) = CardCalls.phaseNumber (w .card .phase) ≡ 1
+AtPhase w (answerAlpha b α out) = CardCalls.phaseNumber (w .card .phase) ≡ 2
+AtPhase w (reply challenge out) = CardCalls.phaseNumber (w .card .phase) ≡ 3
+AtPhase w (takeCommitments c) = CarrierCalls.phaseNumber (w .carrier .phase) ≡ 1
+AtPhase w (setAlpha α) = CarrierCalls.phaseNumber (w .carrier .phase) ≡ 2
+AtPhase w (takeMiddle m) = CarrierCalls.phaseNumber (w .carrier .phase) ≡ 3
+AtPhase w (setChallenge challenge) = CarrierCalls.phaseNumber (w .carrier .phase) ≡ 4
+AtPhase w (takeReply b r) = CarrierCalls.phaseNumber (w .carrier .phase) ≡ 5
+
+at-phase : (o : Opening) (w : World) (c : Call) → Link o w → IsDue o (w .history) c → AtPhase w c
+unfolding IsDue AtPhase CardCalls.phaseNumber CarrierCalls.phaseNumber
+at-phase o w (commit b lent out) l due = card-number o w (l .card-history) Commit (λ e. absurd (omega arith)) .1 due
+at-phase o w (answerAlpha b α out) l due = card-number o w (l .card-history) AnswerAlpha (λ e. absurd (omega arith)) .1 due
+at-phase o w (reply challenge out) l due = card-number o w (l .card-history) Reply (λ e. absurd (omega arith)) .1 due
+at-phase o w (takeCommitments c) l due = carrier-number o w (l .carrier-history) TakeCommitments (λ e. absurd (omega arith)) .1 due
+at-phase o w (setAlpha α) l due = carrier-number o w (l .carrier-history) SetAlpha (λ e. absurd (omega arith)) .1 due
+at-phase o w (takeMiddle m) l due = carrier-number o w (l .carrier-history) TakeMiddle (λ e. absurd (omega arith)) .1 due
+at-phase o w (setChallenge challenge) l due = carrier-number o w (l .carrier-history) SetChallenge (λ e. absurd (omega arith)) .1 due
+at-phase o w (takeReply b r) l due = carrier-number o w (l .carrier-history) TakeReply (λ e. absurd (omega arith)) .1 due
 
 module _ (o : Opening) (k : Opens o) where
   -- ---- one call
 
-  pub effect-linked : (w : World) (c : Call) → Link o w → refusal w c ≡ 0 → Unaltered o w c → Link o (effect w c)
+  pub effect-linked : (w : World) (c : Call) → Link o w → refusal w c ≡ 0 → Unaltered o (w .history) c → Link o (effect w c)
   unfolding refusal effect Unaltered
   effect-linked w (commit b lent out) l none e = rw e (commit-linked o w lent out l (rw e at none))
   effect-linked w (answerAlpha b α out) l none e = rw (e .0) (answer-linked o w α out l (rw (e .0) at none) (e .1))
@@ -68,30 +99,25 @@ module _ (o : Opening) (k : Opens o) where
   effect-linked w (setChallenge challenge) l none e = C.challenge-linked o w challenge l none
   effect-linked w (takeReply b r) l none e = rw (e .0) (Verdicts.reply-linked o k w r l (rw (e .0) at none) (e .1))
 
-  step-linked : (w : World) (c : Call) → Link o w → (refusal w c ≡ 0 → Unaltered o w c) → Link o (step w c)
-  unfolding step
-  step-linked w c l honest = go (eqb (refusal w c) 0) refl
-    where
-      go : (t : Bool) → eqb (refusal w c) 0 ≡ t → Link o (kept (refusal w c) w (effect w c))
-      go true e =
-          let none = eqb-true (refusal w c) 0 e in
-          subst (Link o) (sym (kept-accepted (refusal w c) w (effect w c) none)) (effect-linked w c l none (honest none))
-      go false e = subst (Link o) (sym (kept-refused (refusal w c) w (effect w c) (eqb-false (refusal w c) 0 e))) l
+  step-linked : (w : World) (c : Call) → Link o w → (refusal w c ≡ 0 → Unaltered o (w .history) c) → Link o (step w c)
+  step-linked w c l honest = stepped (Link o) w c l (λ none. effect-linked w c l none (honest none))
 
-  -- ---- what is claimed of one call
+  -- a call in its phase is not refused
+  pub phase-goes : (w : World) (c : Call) → Link o w → AtPhase w c → Fitting o c → refusal w c ≡ 0
+  unfolding AtPhase Fitting refusal
+  phase-goes w (commit b lent out) l phase (e, long, room, elements) = rw e (commit-goes o (k .good) w lent out l phase long room elements)
+  phase-goes w (answerAlpha b α out) l phase (e, room, element) = rw e (answer-goes o (k .good) w α out l phase room element)
+  phase-goes w (reply challenge out) l phase (room, value) = reply-goes o (k .good) w challenge out l phase room value
+  phase-goes w (takeCommitments c) l phase long = C.commitments-go o w c l phase long
+  phase-goes w (setAlpha α) l phase element = C.alpha-goes o w α l phase element
+  phase-goes w (takeMiddle m) l phase (long, elements) = C.middle-goes o w m l phase long elements
+  phase-goes w (setChallenge challenge) l phase value = C.challenge-goes o w challenge l phase value
+  phase-goes w (takeReply b r) l phase (e, long, elements) = rw e (C.reply-goes o w r (k .good) l phase long elements)
 
-  pub due-goes : (w : World) (c : Call) → Link o w → Due o w c → refusal w c ≡ 0
-  unfolding refusal Due
-  due-goes w (commit b lent out) l (phase, e, long, room, elements) = rw e (commit-goes o (k .good) w lent out l phase long room elements)
-  due-goes w (answerAlpha b α out) l (phase, e, room, element) = rw e (answer-goes o (k .good) w α out l phase room element)
-  due-goes w (reply challenge out) l (phase, room, value) = reply-goes o (k .good) w challenge out l phase room value
-  due-goes w (takeCommitments c) l (phase, long) = C.commitments-go o w c l phase long
-  due-goes w (setAlpha α) l (phase, element) = C.alpha-goes o w α l phase element
-  due-goes w (takeMiddle m) l (phase, long, elements) = C.middle-goes o w m l phase long elements
-  due-goes w (setChallenge challenge) l (phase, value) = C.challenge-goes o w challenge l phase value
-  due-goes w (takeReply b r) l (phase, e, long, elements) = rw e (C.reply-goes o w r (k .good) l phase long elements)
+  due-goes : (w : World) (c : Call) → Link o w → DueGoes o w c
+  due-goes w c l due fitting = phase-goes w c l (at-phase o w c l due) fitting
 
-  accepts-each : (w : World) (c : Call) → Link o w → (refusal w c ≡ 0 → Unaltered o w c) → Accepts o w c
+  accepts-each : (w : World) (c : Call) → Link o w → (refusal w c ≡ 0 → Unaltered o (w .history) c) → Accepts o w c
   unfolding refusal Unaltered Accepts
   accepts-each w (commit b lent out) l honest = tt
   accepts-each w (answerAlpha b α out) l honest = tt
@@ -103,27 +129,24 @@ module _ (o : Opening) (k : Opens o) where
   accepts-each w (takeReply b r) l honest =
       λ none.
       let e = honest none in
-      (rw (e .0) (Verdicts.reply-accepted o k w r l (rw (e .0) at none) (e .1)), Verdicts.round-accepted o k w r l (e .1))
+      let none-refused = rw (e .0) at none in
+      (rw (e .0) (Verdicts.reply-accepted o k w r l none-refused (e .1)), Verdicts.round-accepted o k w r l none-refused (e .1))
 
   -- ---- the end
 
-  over : {g : Given} {a : Asked} {card : Card} {r : ℕ} → CardState o g a card r → o .rounds ≤ r → card ≡ CardCalls.closedCard
-  over (St.is-fresh h e c m q) all = absurd (omega arith)
-  over (St.is-committed lent h other l e c cn m q) all = absurd (omega arith)
-  over (St.is-ready lent h l e c cn m mn q) all = absurd (omega arith)
-  over (St.is-over h e q) all = e
+  over : (w : World) → CardGoes o (w .history .given) (w .card) (w .history .cardRound) → o .rounds ≤ w .history .cardRound → w .card ≡ CardCalls.closedCard
+  over w (Cd.going p below progress) all = absurd (omega (arith, below, all))
+  over w (Cd.over over-all e) all = e
 
-  closed : {g : Given} {a : Asked} {carrier : Carrier} {r : ℕ} → CarrierState o g a carrier r → r ≡ o .rounds → carrier ≡ CarrierCalls.closedCarrier Accepted (o .rounds)
-  closed (St.commitments-due h e al ch) all = absurd (omega arith)
-  closed (St.alpha-due c h other eg e al ch) all = absurd (omega arith)
-  closed (St.middle-due c α h other eg ea e al ch) all = absurd (omega arith)
-  closed (St.challenge-due c m h eg mh e al ch) all = absurd (omega arith)
-  closed (St.reply-due c m challenge h eg mh ec e al ch) all = absurd (omega arith)
-  closed (St.accepted h e) all = e
+  closed : (w : World) → CarrierState o (w .history .asked) (w .history .taken) (w .history .judged) (w .carrier) (w .history .carrierRound) →
+      Ca.AllAccepted (w .history .judged) (w .history .carrierRound) → w .history .carrierRound ≡ o .rounds → w .carrier ≡ CarrierCalls.closedCarrier Accepted (o .rounds)
+  closed w (Ca.going p below before progress) all full = absurd (omega (arith, below, full))
+  closed w (Ca.accepted over-all before e) all full = e
+  closed w (Ca.rejected i next below before last e) all full = absurd (Ca.not-both-answers (w .history .judged) i (all i (omega (arith, next))) last)
 
   ended : (w : World) → Link o w → Ended o w
   unfolding Ended
-  ended w l all = (closed (l .carrier-state) all, over (l .card-state) (omega (arith, l .behind, all)))
+  ended w l all = (closed w (l .carrier-history .state) (l .all-accepted) all, over w (l .card-history .goes) (omega (arith, l .behind, all)))
 
   -- ---- the whole list
 
@@ -146,7 +169,7 @@ honest-session o card-open carrier-open calls honest = let k = opens o card-open
 -- a challenge is set only while both ends are in the same round: that need not be asked of an honest list
 pub same-round : (o : Opening) → CardCalls.openRefusal (o .system) (o .scheme) (o .rounds) (o .key) (o .secret) ≡ 0 → (calls : List Call) →
     Honest o (opened o) calls → (challenge : ℕ) → refusal (after (opened o) calls) (setChallenge challenge) ≡ 0 →
-    after (opened o) calls .cardRound ≡ after (opened o) calls .carrierRound
+    after (opened o) calls .history .cardRound ≡ after (opened o) calls .history .carrierRound
 unfolding refusal
 same-round o card-open calls honest challenge none =
     let k = opens o card-open in

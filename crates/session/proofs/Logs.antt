@@ -5,7 +5,7 @@ use mathlib.Core.Bool.{Bool, true, false, false≢true}
 use mathlib.Core.Option.{Option, some, none}
 use native.Mathlib.Omega.{arith}
 use native.Mathlib.Nat.{le-refl, lt-of-not-le}
-use native.Mathlib.Decide.{decLe}
+use native.Mathlib.Decide.{decLe, ℕ-discrete}
 use borrow.Author.Tests.{eq-eqb, ne-eqb}
 use Rattle.session.specs.Session.{Log, put}
 
@@ -53,6 +53,17 @@ clear-next log r clear k h = clear k (omega arith)
 
 pub put-clear : {A : Type 0} (log : Log A) (r : ℕ) (x : A) → Clear log r → Clear (put log r x) (r + 1)
 put-clear log r x clear k h = put-other log r x k (λ same. absurd (omega arith)) ∙ clear k (omega arith)
+
+pub stays-on : {A : Type 0} (old mid new : Log A) → Stays old mid → Stays mid new → Stays old new
+stays-on old mid new first then k x e = then k x (first k x e)
+
+-- a log stays within another where what is put stands there too
+pub put-within : {A : Type 0} (log other : Log A) (r : ℕ) (x : A) → Stays log other → other r ≡ some x → Stays (put log r x) other
+put-within log other r x within there k y e =
+    elim (ℕ-discrete k r) [
+      | yes same ↦ ap other same ∙ there ∙ ap some (same-message x y (sym (ap (put log r x) same ∙ put-there log r x) ∙ e))
+      | no differs ↦ within k y (sym (put-other log r x k differs) ∙ e)
+    ]
 
 -- what was given for a round is given before the first round for which nothing is
 pub given-before : {A : Type 0} (log : Log A) (r k : ℕ) (x : A) → Clear log r → log k ≡ some x → k < r

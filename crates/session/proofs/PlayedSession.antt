@@ -1,5 +1,5 @@
--- Whole honest sessions: for every opening that document 01 lets through and all that may be drawn for its N rounds, the calls of the rounds, one behind the other,
--- are played through, and such a list is honest and ends accepted. A round of three passes has five calls, and one of five passes eight. Assumes nothing.
+-- Whole honest sessions: for every opening that document 01 lets through and all that may be drawn for its N rounds, the calls of the rounds are played through,
+-- one round behind the other or with the card a round ahead, and such a list is honest and ends accepted. Assumes nothing.
 use Prim.Native.Nat.{ℕ, _+_, _<_}
 use mathlib.Core.Path.{_≡_, refl, sym, ap, ap₂, subst, _∙_}
 use mathlib.Core.Bool.{true, cond}
@@ -7,11 +7,11 @@ use mathlib.Core.List.{List, [], _∷_, _++_}
 use mathlib.Core.Option.{some}
 use native.Mathlib.Omega.{arith}
 use lib.Dec.{eqb}
-use lib.ListN.{length, take}
+use lib.ListN.{length, take, replicate, length-replicate}
 use borrow.Author.Tests.{ne-eqb}
 use Rattle.slices.specs.Slices.{zeros}
 use Rattle.refusal.proofs.Refusals.{kept-accepted}
-use Rattle.field.specs.Vector.{held, allBelow}
+use Rattle.field.specs.Vector.{allBelow}
 use Rattle.system.specs.System.{qOf, nOf, mOf}
 use Rattle.system.proofs.SystemLayout.{all-below-at, at-all-below}
 use Rattle.scheme.specs.Scheme.{commitmentsLength, vectorsLength, rhosLength, replyLength}
@@ -29,16 +29,17 @@ use Rattle.carrier_state.specs.declared.session.CarrierPhase.the-variants.{Take
 use Rattle.carrier_state.specs.declared.session.Carrier.{Carrier}
 use Rattle.carrier_state.specs.Carrier as CarrierCalls
 use Rattle.carrier_state.specs.Carrier.{carrierWith, openedCarrier, withAlpha, withMiddle, withChallenge, judgedCarrier}
-use Rattle.session.specs.Session.{Opening, Call, Given, Asked, World, opened, refusal, effect, step, after, Unaltered, Honest, Due, Ended, Holds}
-use Rattle.session.specs.Played.{Openable, Draw, Fits, AllFit, fresh, lending, committing, taking, setting, answering, taking-middle, asking, replying, judging, threeCalls, fiveCalls, roundCalls, sessionCalls, Plays}
+use Rattle.session.specs.Session.{Opening, Call, Given, Asked, Taken, Judgement, Log, World, opened, refusal, effect, step, after}
+use Rattle.session.specs.Honest.{Unaltered, Honest, Fitting, Ended, Holds}
+use Rattle.session.specs.Played.{Openable, Draw, Fits, zeroDraw, AllFit, fresh, lending, committing, taking, setting, answering, taking-middle, asking, replying, judging, threeCalls, fiveCalls, exchanging, sessionCalls, aheadFrom, aheadCalls, Plays}
 use Rattle.session.proofs.States as St
 use Rattle.session.proofs.States.{Link}
 use Rattle.session.proofs.Logs.{put-there}
-use Rattle.session.proofs.CardSide.{by-scheme, card-opens, committed-is, sent-commitments-is, sent-middle-is, sent-reply-is, replied-next}
-use Rattle.session.proofs.CarrierSide.{carrier-opens, took-commitments, judged-next}
+use Rattle.session.proofs.CardSide.{card-opens, committed-is, sent-commitments-is, sent-middle-is, sent-reply-is, replied-next}
+use Rattle.session.proofs.CarrierHistory.{by-scheme, carrierAt, carrier-opens, took-commitments, judged-next}
 use Rattle.session.proofs.Verdicts.{Opens, reply-accepted}
-use Rattle.session.proofs.Openings.{card-opens-for, carrier-opens-for}
-use Rattle.session.proofs.HonestSession.{opens, start, effect-linked, due-goes, honest-session}
+use Rattle.session.proofs.Openings.{card-opens-for, carrier-opens-for, all-zeros-fit}
+use Rattle.session.proofs.HonestSession.{opens, start, AtPhase, effect-linked, phase-goes, honest-session}
 
 -- ---- one call
 
@@ -47,50 +48,75 @@ unfolding step
 went w c none = kept-accepted (refusal w c) w (effect w c) none
 
 module _ (o : Opening) (k : Opens o) where
-  -- a call that is due goes, and leaves the ends linked for those behind it
-  goes : (w : World) (c : Call) (cs : List Call) → Link o w → Due o w c → Unaltered o w c →
+  -- a call in its phase goes, and leaves the ends linked for those behind it
+  goes : (w : World) (c : Call) (cs : List Call) → Link o w → AtPhase w c → Fitting o c → Unaltered o (w .history) c →
       (refusal w c ≡ 0 → Link o (effect w c) → Plays o (effect w c) cs) → Plays o w (c ∷ cs)
   unfolding Plays
-  goes w c cs l due same rest =
-      let none = due-goes o k w c l due in
+  goes w c cs l phase fitting same rest =
+      let none = phase-goes o k w c l phase fitting in
       (none, same, subst (λ (later : World). Plays o later cs) (sym (went w c none)) (rest none (effect-linked o k w c l none same)))
 
-  -- ---- between two rounds
+  -- ---- both ends in a round
 
   abbrev freshCarrier : ℕ → Carrier
-  freshCarrier r = St.carrierAt o TakeCommitments r (zeros 96) (zeros 193) 0
+  freshCarrier r = carrierAt o TakeCommitments r (zeros 96) (zeros 193) 0
 
-  -- both ends in round r
-  abbrev both : Card → Carrier → ℕ → Given → Asked → World
-  both card carrier r g a = record { card = card; cardRound = r; given = g; carrier = carrier; carrierRound = r; asked = a }
+  -- what is due at the card, and at the carrier, behind the commitments
+  abbrev cardNext : CardPhase
+  cardNext = cond (eqb (o .scheme) 3) Reply AnswerAlpha
 
-  same-ends : {card card′ : Card} {carrier carrier′ : Carrier} (r : ℕ) (g : Given) (a : Asked) → card ≡ card′ → carrier ≡ carrier′ →
-      both card carrier r g a ≡ both card′ carrier′ r g a
-  same-ends r g a = ap₂ (λ (card : Card) (carrier : Carrier). both card carrier r g a)
+  abbrev carrierNext : CarrierPhase
+  carrierNext = cond (eqb (o .scheme) 3) SetChallenge SetAlpha
+
+  abbrev both : Card → Carrier → ℕ → Given → Asked → Taken → Log Judgement → World
+  both card carrier r g a t j =
+      record { card = card; carrier = carrier; history = record { cardRound = r; given = g; carrierRound = r; asked = a; taken = t; judged = j } }
+
+  same-ends : {card card′ : Card} {carrier carrier′ : Carrier} (r : ℕ) (g : Given) (a : Asked) (t : Taken) (j : Log Judgement) → card ≡ card′ →
+      carrier ≡ carrier′ → both card carrier r g a t j ≡ both card′ carrier′ r g a t j
+  same-ends r g a t j = ap₂ (λ (card : Card) (carrier : Carrier). both card carrier r g a t j)
 
   with-ends : (cs : List Call) (w later : World) → w ≡ later → Link o w → (Link o later → Plays o later cs) → Plays o w cs
   with-ends cs w later e l rest = subst (λ (world : World). Plays o world cs) (sym e) (rest (subst (Link o) e l))
 
+  in-round : (w : World) (r : ℕ) → w .history .cardRound ≡ r → w .history .carrierRound ≡ r →
+      w ≡ both (w .card) (w .carrier) r (w .history .given) (w .history .asked) (w .history .taken) (w .history .judged)
+  in-round w r =
+      let h = w .history in
+      ap₂ (λ (i j : ℕ).
+      record {
+        card = w .card;
+        carrier = w .carrier;
+        history = record { cardRound = i; given = h .given; carrierRound = j; asked = h .asked; taken = h .taken; judged = h .judged };
+      })
+
   -- r rounds are over at both ends
   record Reached (w : World) (r : ℕ) : Type 0 where
     pub linked : Link o w
-    pub card-round : w .cardRound ≡ r
-    pub carrier-round : w .carrierRound ≡ r
+    pub card-round : w .history .cardRound ≡ r
+    pub carrier-round : w .history .carrierRound ≡ r
     pub card-fresh : r < o .rounds → w .card ≡ St.freshCard o r
     pub carrier-fresh : r < o .rounds → w .carrier ≡ freshCarrier r
 
-  abbrev between : ℕ → Given → Asked → World
-  between r = both (St.freshCard o r) (freshCarrier r) r
+  -- both ends in round r: the commitments are given, and not taken yet
+  record Committed (d : Draw) (w : World) (r : ℕ) : Type 0 where
+    pub linked : Link o w
+    pub card-round : w .history .cardRound ≡ r
+    pub carrier-round : w .history .carrierRound ≡ r
+    pub card-is : w .card ≡ St.heldCard o cardNext r (d .lent)
+    pub carrier-is : w .carrier ≡ freshCarrier r
+    pub given : w .history .given .commitments r ≡ some (sentCommitments (fresh o) (o .system) (d .lent))
 
-  in-round : (w : World) (r : ℕ) → w .cardRound ≡ r → w .carrierRound ≡ r → w ≡ both (w .card) (w .carrier) r (w .given) (w .asked)
-  in-round w r =
-      ap₂ (λ (i j : ℕ). record { card = w .card; cardRound = i; given = w .given; carrier = w .carrier; carrierRound = j; asked = w .asked })
-
-  reached-is : (w : World) (r : ℕ) → Reached w r → r < o .rounds → w ≡ between r (w .given) (w .asked)
-  reached-is w r e below =
-      in-round w r (e .card-round) (e .carrier-round) ∙ same-ends r (w .given) (w .asked) (e .card-fresh below) (e .carrier-fresh below)
-
-  -- ---- the calls of a round go
+  -- the reply of round r is given, and not taken yet
+  record Replied (d : Draw) (w : World) (r : ℕ) : Type 0 where
+    pub linked : Link o w
+    pub card-round : w .history .cardRound ≡ r + 1
+    pub carrier-round : w .history .carrierRound ≡ r
+    pub card-fresh : r + 1 < o .rounds → w .card ≡ St.freshCard o (r + 1)
+    pub commitments : List ℕ
+    pub middle : List ℕ
+    pub carrier-is : w .carrier ≡ carrierAt o TakeReply r commitments middle (d .challenge)
+    pub given : w .history .given .replies r ≡ some (sentReply (lending o d) (d .challenge))
 
   module _ (d : Draw) (fits : Fits o d) where
     lends : Lends (o .system) (d .lent)
@@ -101,7 +127,7 @@ module _ (o : Opening) (k : Opens o) where
     commitments-are : sentCommitments (fresh o) (o .system) (d .lent) ≡ St.commitmentsOf o (d .lent)
     commitments-are = ap (λ (c : Card). sentCommitments c (o .system) (d .lent)) (card-opens o) ∙ sent-commitments-is o 0 (d .lent)
 
-    lending-is : lending o d ≡ St.heldCard o (cond (eqb (o .scheme) 3) Reply AnswerAlpha) 0 (d .lent)
+    lending-is : lending o d ≡ St.heldCard o cardNext 0 (d .lent)
     lending-is = ap (λ (c : Card). committedCard c (o .system) (d .lent)) (card-opens o) ∙ committed-is o 0 (d .lent) _ refl
 
     middle-is : sentMiddle (lending o d) (o .system) (d .α) ≡ St.middleOf o (d .lent) (d .α)
@@ -143,109 +169,181 @@ module _ (o : Opening) (k : Opens o) where
     unfolding St.middleOf
     middle-has-elements = rw middle-is (all-below-at _ _ (middle-elements (o .system) (k .good) (d .lent) lends (d .α)))
 
-    -- both ends in round r, the commitments taken
-    abbrev begun : ℕ → Given → Asked → CardPhase → CarrierPhase → World
-    begun r g a card-due carrier-due =
-        both (St.heldCard o card-due r (d .lent)) (St.carrierAt o carrier-due r (held (sentCommitments (fresh o) (o .system) (d .lent))) (zeros 193) 0) r g a
+    -- ---- the calls between commitments and reply go
 
-    module _ (cs : List Call) where
-      -- the commitments are given and taken
-      beginning : (r : ℕ) (g : Given) (a : Asked) (card-due : CardPhase) (carrier-due : CarrierPhase) → cond (eqb (o .scheme) 3) Reply AnswerAlpha ≡ card-due →
-          cond (eqb (o .scheme) 3) SetChallenge SetAlpha ≡ carrier-due → Link o (between r g a) →
-          ((g′ : Given) → Link o (begun r g′ a card-due carrier-due) → Plays o (begun r g′ a card-due carrier-due) cs) →
-          Plays o (between r g a) (committing o d ∷ taking o d ∷ cs)
-      unfolding Due Unaltered effect St.freshCard cardWith openedCard CardCalls.phaseNumber St.carrierAt carrierWith openedCarrier CarrierCalls.phaseNumber
-      beginning r g a card-due carrier-due e1 e2 l rest =
-          goes _ _ _ l (refl, refl, fits .lent-length, refl, fits .lent-elements) refl
-          (λ n1 l1. goes _ _ _ l1 (refl, commitments-long) (put-there _ r _ ∙ ap some (sent-commitments-is o r (d .lent) ∙ sym commitments-are))
-          (λ n2 l2. with-ends cs _ _ (same-ends r _ a (committed-is o r (d .lent) card-due e1) (took-commitments o r _ carrier-due e2)) l2 (rest _)))
-
-      -- the reply is taken, and the round is over at both ends
-      judged : (w : World) (c m : List ℕ) → Link o w → w .carrier ≡ St.carrierAt o TakeReply (w .carrierRound) c m (d .challenge) →
-          w .cardRound ≡ w .carrierRound + 1 → (w .carrierRound + 1 < o .rounds → w .card ≡ St.freshCard o (w .carrierRound + 1)) →
-          w .given .replies (w .carrierRound) ≡ some (sentReply (lending o d) (d .challenge)) →
-          ((later : World) → Reached later (w .carrierRound + 1) → Plays o later cs) → Plays o w (judging o d ∷ cs)
-      unfolding Due Unaltered refusal effect St.carrierAt carrierWith CarrierCalls.phaseNumber
-      judged w c m l is ahead next-fresh given rest =
-          goes w (judging o d) cs l (ap (λ (c : Carrier). CarrierCalls.phaseNumber (c .phase)) is, refl, reply-long, reply-elements) (refl, given)
-          (λ none next.
-          rest _
-          (record {
-            linked = next;
-            card-round = ahead;
-            carrier-round = refl;
-            card-fresh = next-fresh;
-            carrier-fresh = λ more. ap₂ judgedCarrier is (reply-accepted o k w _ l none given) ∙ judged-next o _ c m (d .challenge) more (k .few);
-          }))
-
-      -- challenge, reply and verdict
-      ending : (r : ℕ) (g : Given) (a : Asked) (c m : List ℕ) → Link o (both (St.heldCard o Reply r (d .lent)) (St.carrierAt o SetChallenge r c m 0) r g a) →
-          ((later : World) → Reached later (r + 1) → Plays o later cs) →
-          Plays o (both (St.heldCard o Reply r (d .lent)) (St.carrierAt o SetChallenge r c m 0) r g a) (asking o d ∷ replying o d ∷ judging o d ∷ cs)
-      unfolding Due Unaltered effect St.heldCard cardWith CardCalls.phaseNumber St.carrierAt carrierWith openedCarrier withChallenge CarrierCalls.phaseNumber
-      ending r g a c m l rest =
-          goes _ _ _ l (refl, fits .challenge-value) tt
-          (λ n1 l1. goes _ _ _ l1 (refl, refl, fits .challenge-value) (put-there _ r _)
-          (λ n2 l2. judged _ c m l2 refl refl (λ more. replied-next o r (d .lent) more (k .few)) (put-there _ r _ ∙ ap some (sent-reply-is o Reply r (d .lent) (d .challenge) ∙ sym reply-is)) rest))
-
-      -- α, t1 and e1
-      middle : (r : ℕ) (g : Given) (a : Asked) (c m : List ℕ) → (o .scheme ≡ 3 → ⊥) →
-          Link o (both (St.heldCard o AnswerAlpha r (d .lent)) (St.carrierAt o SetAlpha r c m 0) r g a) →
-          ((later : World) → Reached later (r + 1) → Plays o later cs) →
-          Plays o (both (St.heldCard o AnswerAlpha r (d .lent)) (St.carrierAt o SetAlpha r c m 0) r g a)
-          (setting o d ∷ answering o d ∷ taking-middle o d ∷ asking o d ∷ replying o d ∷ judging o d ∷ cs)
-      unfolding Due Unaltered effect St.heldCard cardWith openedCard answeredCard heldLent CardCalls.phaseNumber St.carrierAt carrierWith openedCarrier withAlpha withMiddle CarrierCalls.phaseNumber
-      middle r g a c m other l rest =
-          let element = fits .alpha-element other in
-          goes _ _ _ l (refl, element) tt
-          (λ n1 l1. goes _ _ _ l1 (refl, refl, refl, element) (refl, put-there _ r _)
-          (λ n2 l2. goes _ _ _ l2 (refl, middle-has-length, middle-has-elements) (put-there _ r _ ∙ ap some (sent-middle-is o AnswerAlpha r (d .lent) (d .α) ∙ sym middle-is))
-          (λ n3 l3. ending r _ _ c _ l3 rest)))
-
-    three-calls : o .scheme ≡ 3 → roundCalls o d ≡ threeCalls o d
+    three-calls : o .scheme ≡ 3 → exchanging o d ≡ threeCalls o d
     three-calls three = simp three
 
-    five-calls : (o .scheme ≡ 3 → ⊥) → roundCalls o d ≡ fiveCalls o d
+    five-calls : (o .scheme ≡ 3 → ⊥) → exchanging o d ≡ fiveCalls o d
     five-calls other = simp (ne-eqb (o .scheme) 3 other)
 
-    round-plays : (cs : List Call) (r : ℕ) (g : Given) (a : Asked) → Link o (between r g a) →
-        ((later : World) → Reached later (r + 1) → Plays o later cs) → Plays o (between r g a) (roundCalls o d ++ cs)
-    round-plays cs r g a l rest =
-        by-scheme (o .scheme)
-        (λ three.
-        subst (λ (calls : List Call). Plays o (between r g a) (calls ++ cs)) (sym (three-calls three))
-        (beginning _ r g a Reply SetChallenge (rw three) (rw three) l (λ g′ l′. ending cs r g′ a _ _ l′ rest)))
-        (λ other.
-        let test = ne-eqb (o .scheme) 3 other in
-        subst (λ (calls : List Call). Plays o (between r g a) (calls ++ cs)) (sym (five-calls other))
-        (beginning _ r g a AnswerAlpha SetAlpha (rw test) (rw test) l (λ g′ l′. middle cs r g′ a _ _ other l′ rest)))
+    module _ (cs : List Call) (r : ℕ) (rest : (later : World) → Replied d later r → Plays o later cs) where
+      -- challenge and reply
+      ending : (g : Given) (a : Asked) (t : Taken) (j : Log Judgement) (c m : List ℕ) →
+          Link o (both (St.heldCard o Reply r (d .lent)) (carrierAt o SetChallenge r c m 0) r g a t j) →
+          Plays o (both (St.heldCard o Reply r (d .lent)) (carrierAt o SetChallenge r c m 0) r g a t j) (asking o d ∷ replying o d ∷ cs)
+      unfolding AtPhase Fitting Unaltered effect St.heldCard cardWith CardCalls.phaseNumber carrierAt carrierWith openedCarrier withChallenge CarrierCalls.phaseNumber
+      ending g a t j c m l =
+          goes _ _ _ l refl (fits .challenge-value) tt
+          (λ n1 l1. goes _ _ _ l1 refl (refl, fits .challenge-value) (put-there _ r _)
+          (λ n2 l2.
+          rest _
+          (record {
+            linked = l2;
+            card-round = refl;
+            carrier-round = refl;
+            card-fresh = λ more. replied-next o r (d .lent) more (k .few);
+            commitments = c;
+            middle = m;
+            carrier-is = refl;
+            given = put-there _ r _ ∙ ap some (sent-reply-is o Reply r (d .lent) (d .challenge) ∙ sym reply-is);
+          })))
 
-  -- ---- whole sessions
+      -- α, t1 and e1
+      middle : (g : Given) (a : Asked) (t : Taken) (j : Log Judgement) (c m : List ℕ) → (o .scheme ≡ 3 → ⊥) →
+          Link o (both (St.heldCard o AnswerAlpha r (d .lent)) (carrierAt o SetAlpha r c m 0) r g a t j) →
+          Plays o (both (St.heldCard o AnswerAlpha r (d .lent)) (carrierAt o SetAlpha r c m 0) r g a t j)
+          (setting o d ∷ answering o d ∷ taking-middle o d ∷ asking o d ∷ replying o d ∷ cs)
+      unfolding AtPhase Fitting Unaltered effect St.heldCard cardWith openedCard answeredCard heldLent CardCalls.phaseNumber carrierAt carrierWith openedCarrier withAlpha withMiddle CarrierCalls.phaseNumber
+      middle g a t j c m other l =
+          let element = fits .alpha-element other in
+          goes _ _ _ l refl element tt
+          (λ n1 l1. goes _ _ _ l1 refl (refl, refl, element) (refl, put-there _ r _)
+          (λ n2 l2. goes _ _ _ l2 refl (middle-has-length, middle-has-elements) (put-there _ r _ ∙ ap some (sent-middle-is o AnswerAlpha r (d .lent) (d .α) ∙ sym middle-is))
+          (λ n3 l3. ending _ _ _ _ c _ l3)))
+
+      -- the commitments are taken
+      begun : (g : Given) (a : Asked) (t : Taken) (j : Log Judgement) (card-due : CardPhase) (carrier-due : CarrierPhase) (later : List Call) →
+          carrierNext ≡ carrier-due → g .commitments r ≡ some (sentCommitments (fresh o) (o .system) (d .lent)) →
+          Link o (both (St.heldCard o card-due r (d .lent)) (freshCarrier r) r g a t j) →
+          ((t′ : Taken) (c : List ℕ) → Link o (both (St.heldCard o card-due r (d .lent)) (carrierAt o carrier-due r c (zeros 193) 0) r g a t′ j) →
+          Plays o (both (St.heldCard o card-due r (d .lent)) (carrierAt o carrier-due r c (zeros 193) 0) r g a t′ j) later) →
+          Plays o (both (St.heldCard o card-due r (d .lent)) (freshCarrier r) r g a t j) (taking o d ∷ later)
+      unfolding AtPhase Fitting Unaltered effect carrierAt carrierWith openedCarrier CarrierCalls.phaseNumber
+      begun g a t j card-due carrier-due later e given l next =
+          goes _ _ _ l refl commitments-long given
+          (λ n1 l1. with-ends later _ _ (same-ends r g a _ j refl (took-commitments o r _ carrier-due e)) l1 (next _ _))
+
+      -- the ends as they are behind the commit, in this scheme's phase
+      starting : (w : World) (calls : List Call) (card-due : CardPhase) → cardNext ≡ card-due → Committed d w r →
+          let h = w .history in
+          let start = both (St.heldCard o card-due r (d .lent)) (freshCarrier r) r (h .given) (h .asked) (h .taken) (h .judged) in
+          (Link o start → Plays o start calls) → Plays o w calls
+      starting w calls card-due e s =
+          with-ends calls w _
+          (in-round w r (s .card-round) (s .carrier-round) ∙
+          same-ends r _ _ _ _ (s .card-is ∙ ap (λ (p : CardPhase). St.heldCard o p r (d .lent)) e) (s .carrier-is)) (s .linked)
+
+      exchanged : (w : World) → Committed d w r → Plays o w (exchanging o d ++ cs)
+      exchanged w s =
+          by-scheme (o .scheme)
+          (λ three.
+          subst (λ (calls : List Call). Plays o w (calls ++ cs)) (sym (three-calls three))
+          (starting w _ Reply (rw three) s (λ l. begun _ _ _ _ Reply SetChallenge _ (rw three) (s .given) l (λ t′ c l′. ending _ _ t′ _ c _ l′))))
+          (λ other.
+          let test = ne-eqb (o .scheme) 3 other in
+          subst (λ (calls : List Call). Plays o w (calls ++ cs)) (sym (five-calls other))
+          (starting w _ AnswerAlpha (rw test) s (λ l. begun _ _ _ _ AnswerAlpha SetAlpha _ (rw test) (s .given) l (λ t′ c l′. middle _ _ t′ _ c _ other l′))))
+
+    -- ---- the reply is taken
+
+    judged : (w : World) (r : ℕ) (cs : List Call) → Link o w → w .history .carrierRound ≡ r → (c m : List ℕ) →
+        w .carrier ≡ carrierAt o TakeReply r c m (d .challenge) → w .history .given .replies r ≡ some (sentReply (lending o d) (d .challenge)) →
+        (Link o (effect w (judging o d)) → (r + 1 < o .rounds → effect w (judging o d) .carrier ≡ freshCarrier (r + 1)) → Plays o (effect w (judging o d)) cs) →
+        Plays o w (judging o d ∷ cs)
+    unfolding AtPhase Fitting Unaltered refusal effect carrierAt carrierWith CarrierCalls.phaseNumber
+    judged w r cs l at c m is given rest =
+        let given-now = ap (w .history .given .replies) at ∙ given in
+        goes w (judging o d) cs l (ap (λ (c : Carrier). CarrierCalls.phaseNumber (c .phase)) is) (refl, reply-long, reply-elements) (refl, given-now)
+        (λ none next. rest next (λ more. ap₂ judgedCarrier is (reply-accepted o k w _ l none given-now) ∙ judged-next o r c m (d .challenge) more (k .few)))
+
+    -- ---- the card commits
+
+    committed : (w : World) (r : ℕ) (cs : List Call) → Link o w → w .history .cardRound ≡ r → w .card ≡ St.freshCard o r →
+        (Link o (effect w (committing o d)) → effect w (committing o d) .card ≡ St.heldCard o cardNext r (d .lent) →
+        effect w (committing o d) .history .given .commitments r ≡ some (sentCommitments (fresh o) (o .system) (d .lent)) →
+        Plays o (effect w (committing o d)) cs) →
+        Plays o w (committing o d ∷ cs)
+    unfolding AtPhase Fitting Unaltered effect St.freshCard cardWith CardCalls.phaseNumber
+    committed w r cs l at is rest =
+        goes w (committing o d) cs l (ap (λ (c : Card). CardCalls.phaseNumber (c .phase)) is) (refl, fits .lent-length, refl, fits .lent-elements) refl
+        (λ none next.
+        rest next (ap (λ (c : Card). committedCard c (o .system) (d .lent)) is ∙ committed-is o r (d .lent) _ refl)
+        (rw at (put-there _ r _) ∙ ap some (ap (λ (c : Card). sentCommitments c (o .system) (d .lent)) is ∙ sent-commitments-is o r (d .lent) ∙ sym commitments-are)))
+
+  -- ---- one round behind the other
 
   rounds-play : (ds : List Draw) (r : ℕ) (w : World) → r + length ds ≡ o .rounds → Reached w r → AllFit o ds → Plays o w (sessionCalls o ds)
-  unfolding AllFit Plays sessionCalls
+  unfolding AllFit Plays sessionCalls effect
   rounds-play [] r w all e fits = omega (arith, e .carrier-round, all)
-  rounds-play (d ∷ ds) r w all e fits =
-      with-ends (sessionCalls o (d ∷ ds)) w _ (reached-is w r e (omega (arith, all))) (e .linked)
-      (λ l. round-plays d (fits .0) (sessionCalls o ds) r (w .given) (w .asked) l (λ later next. rounds-play ds (r + 1) later (omega (arith, all)) next (fits .1)))
+  rounds-play (d ∷ ds) r w all e (fit, fits) =
+      let below : r < o .rounds = omega (arith, all) in
+      let taking-it = judging o d ∷ sessionCalls o ds in
+      committed d fit w r (exchanging o d ++ taking-it) (e .linked) (e .card-round) (e .card-fresh below) (λ l1 card-is given.
+      exchanged d fit taking-it r
+      (λ later s.
+      judged d fit later r (sessionCalls o ds) (s .linked) (s .carrier-round) (s .commitments) (s .middle) (s .carrier-is) (s .given) (λ l2 carrier-fresh.
+      rounds-play ds (r + 1) _ (omega (arith, all))
+      (record {
+        linked = l2;
+        card-round = s .card-round;
+        carrier-round = ap (λ (i : ℕ). i + 1) (s .carrier-round);
+        card-fresh = s .card-fresh;
+        carrier-fresh = carrier-fresh;
+      })
+      fits))
+      _
+      (record { linked = l1; card-round = e .card-round; carrier-round = e .carrier-round; card-is = card-is; carrier-is = e .carrier-fresh below; given = given }))
 
   opened-reached : Reached (opened o) 0
   unfolding opened
   opened-reached =
-      record {
-        linked = start o k;
-        card-round = refl;
-        carrier-round = refl;
-        card-fresh = λ h. card-opens o;
-        carrier-fresh = λ h. carrier-opens o;
-      }
+      record { linked = start o k; card-round = refl; carrier-round = refl; card-fresh = λ h. card-opens o; carrier-fresh = λ h. carrier-opens o }
+
+  -- ---- the card a round ahead
+
+  ahead-plays : (d : Draw) (ds : List Draw) (r : ℕ) (w : World) → Fits o d → r + 1 + length ds ≡ o .rounds → Committed d w r → AllFit o ds →
+      Plays o w (aheadFrom o d ds)
+  unfolding AllFit Plays aheadFrom effect
+  ahead-plays d [] r w fit all s fits =
+      exchanged d fit (judging o d ∷ []) r
+      (λ later q.
+      judged d fit later r [] (q .linked) (q .carrier-round) (q .commitments) (q .middle) (q .carrier-is) (q .given) (λ l2 carrier-fresh. omega (arith, q .carrier-round, all)))
+      w s
+  ahead-plays d (next ∷ ds) r w fit all s (fit-next, fits) =
+      let more : r + 1 < o .rounds = omega (arith, all) in
+      let taking-it = judging o d ∷ aheadFrom o next ds in
+      exchanged d fit (committing o next ∷ taking-it) r
+      (λ later q.
+      committed next fit-next later (r + 1) taking-it (q .linked) (q .card-round) (q .card-fresh more) (λ l1 card-is given.
+      judged d fit (effect later (committing o next)) r (aheadFrom o next ds) l1 (q .carrier-round) (q .commitments) (q .middle) (q .carrier-is) (q .given) (λ l2 carrier-fresh.
+      ahead-plays next ds (r + 1) _ fit-next (omega (arith, all))
+      (record {
+        linked = l2;
+        card-round = q .card-round;
+        carrier-round = ap (λ (i : ℕ). i + 1) (q .carrier-round);
+        card-is = card-is;
+        carrier-is = carrier-fresh more;
+        given = given;
+      })
+      fits)))
+      w s
+
+  ahead-from-start : (draws : List Draw) → length draws ≡ o .rounds → AllFit o draws → Plays o (opened o) (aheadCalls o draws)
+  unfolding AllFit aheadCalls effect opened
+  ahead-from-start [] all fits = absurd (omega (arith, all, k .some-rounds))
+  ahead-from-start (d ∷ ds) all (fit, fits) =
+      let e = opened-reached in
+      committed d fit (opened o) 0 (aheadFrom o d ds) (e .linked) refl (e .card-fresh (k .some-rounds)) (λ l1 card-is given.
+      ahead-plays d ds 0 _ fit (omega (arith, all))
+      (record { linked = l1; card-round = refl; carrier-round = refl; card-is = card-is; carrier-is = e .carrier-fresh (k .some-rounds); given = given }) fits)
 
 pub plays-honest : (o : Opening) (w : World) (cs : List Call) → Plays o w cs → Honest o w cs
 unfolding Plays Honest
 plays-honest o w [] played = tt
 plays-honest o w (c ∷ cs) (none, same, rest) = (λ e. same, plays-honest o (step w c) cs rest)
 
-taken-all : (o : Opening) (w : World) (cs : List Call) → Plays o w cs → after w cs .carrierRound ≡ o .rounds
+taken-all : (o : Opening) (w : World) (cs : List Call) → Plays o w cs → after w cs .history .carrierRound ≡ o .rounds
 unfolding Plays after
 taken-all o w [] played = played
 taken-all o w (c ∷ cs) (none, same, rest) = taken-all o (step w c) cs rest
@@ -261,10 +359,22 @@ whole-session o openable draws all fits =
     let k = opens o (card-opens-for o openable) in
     rounds-play o k draws 0 (opened o) (omega (arith, all)) (opened-reached o k) fits
 
--- and a session that is played through ends as accepted with the count N, the card's closed
+-- and so they are with the card a round ahead
+pub ahead-session : (o : Opening) → Openable o → (draws : List Draw) → length draws ≡ o .rounds → AllFit o draws → Plays o (opened o) (aheadCalls o draws)
+ahead-session o openable = ahead-from-start o (opens o (card-opens-for o openable))
+
+-- a session that is played through ends as accepted with the count N, the card's closed
 pub played-accepted : (o : Opening) → Openable o → (calls : List Call) → Plays o (opened o) calls →
     (after (opened o) calls .carrier ≡ CarrierCalls.closedCarrier Accepted (o .rounds)) × (after (opened o) calls .card ≡ CardCalls.closedCard)
 unfolding Ended
 played-accepted o openable calls played =
-    let holds = honest-session o (card-opens-for o openable) (carrier-opens-for o openable) calls (plays-honest o (opened o) calls played) in
+    let holds = honest-session o (card-opens-for o openable) (carrier-opens-for o (openable .for-carrier)) calls (plays-honest o (opened o) calls played) in
     at-the-end o (opened o) calls holds (taken-all o (opened o) calls played)
+
+-- every opening that document 01 lets through has a session, with the card a round ahead or not: of zeros
+pub some-session : (o : Opening) → Openable o →
+    Plays o (opened o) (sessionCalls o (replicate (o .rounds) (zeroDraw o))) × Plays o (opened o) (aheadCalls o (replicate (o .rounds) (zeroDraw o)))
+some-session o openable =
+    let all = length-replicate (o .rounds) (zeroDraw o) in
+    let fit = all-zeros-fit o openable (o .rounds) in
+    (whole-session o openable _ all fit, ahead-session o openable _ all fit)

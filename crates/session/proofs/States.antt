@@ -2,7 +2,7 @@
 use Prim.Native.Nat.{ℕ, _+_, _≤_, _<_}
 use mathlib.Core.Path.{_≡_}
 use mathlib.Core.Bool.{cond}
-use mathlib.Core.List.{List, []}
+use mathlib.Core.List.{List}
 use mathlib.Core.Option.{some}
 use lib.Dec.{eqb}
 use Rattle.field.specs.Vector as Vector
@@ -13,17 +13,14 @@ use Rattle.exchange.specs.Messages.{lentIn, threeCommitments, fiveCommitments, 
 use Rattle.exchange.specs.Card.{threeVectors, threeCommitted, threeReplied, fiveCommitted}
 use Rattle.exchange.proofs.Formed.{Lends}
 use Rattle.honest.proofs.Honest.{fiveMiddle, fiveReplied}
-use Rattle.session_state.specs.declared.Verdict.the-variants.{Accepted}
 use Rattle.card_state.specs.declared.session.CardPhase.{CardPhase}
 use Rattle.card_state.specs.declared.session.CardPhase.the-variants.{Commit, AnswerAlpha, Reply}
 use Rattle.card_state.specs.declared.session.Card.{Card}
 use Rattle.card_state.specs.Card as CardCalls
-use Rattle.carrier_state.specs.declared.session.CarrierPhase.{CarrierPhase}
-use Rattle.carrier_state.specs.declared.session.CarrierPhase.the-variants.{TakeCommitments, SetAlpha, TakeMiddle, SetChallenge, TakeReply}
-use Rattle.carrier_state.specs.declared.session.Carrier.{Carrier}
-use Rattle.carrier_state.specs.Carrier as CarrierCalls
-use Rattle.session.specs.Session.{Opening, Given, Asked, World}
+use Rattle.session.specs.Session.{Opening, Given, Asked, Taken, World}
 use Rattle.session.proofs.Logs.{Clear, Stays}
+use Rattle.session.proofs.CardHistory.{openCard, CardHistory}
+use Rattle.session.proofs.CarrierHistory.{AllAccepted, CarrierHistory}
 
 module _ (o : Opening) where
   -- ---- what an honest card sends in a round, from what is lent for it
@@ -45,15 +42,12 @@ module _ (o : Opening) where
 
   -- ---- the card
 
-  abbrev pub openCard : Card
-  openCard = CardCalls.openedCard (o .system) (o .scheme) (o .rounds) (o .secret)
-
   unfoldable pub freshCard : ℕ → Card
-  freshCard r = CardCalls.cardWith openCard Commit r CardCalls.noLent (zeros 96)
+  freshCard r = CardCalls.cardWith (openCard o) Commit r CardCalls.noLent (zeros 96)
 
   unfoldable pub heldCard : CardPhase → ℕ → List ℕ → Card
   heldCard phase r lent =
-      CardCalls.cardWith openCard phase r (lentIn (nOf (o .system)) (mOf (o .system)) lent)
+      CardCalls.cardWith (openCard o) phase r (lentIn (nOf (o .system)) (mOf (o .system)) lent)
       (cond (eqb (o .scheme) 3) (threeVectors (o .system) secretOf lent .e1) (zeros 96))
 
   -- what the card gave between commitments and challenge: nothing, or t1 and e1 for the α that was set
@@ -81,42 +75,21 @@ module _ (o : Opening) where
     pub challenge-value : challenge < challenges (o .scheme)
     pub reply-given : g .replies k ≡ some (replyOf lent challenge)
 
-  -- ---- the carrier
-
-  abbrev pub openCarrier : Carrier
-  openCarrier = CarrierCalls.openedCarrier (o .system) (o .scheme) (o .rounds) (o .key)
-
-  unfoldable pub carrierAt : CarrierPhase → ℕ → List ℕ → List ℕ → ℕ → Carrier
-  carrierAt phase r commitments middle challenge = CarrierCalls.carrierWith openCarrier phase r commitments middle challenge
-
-  -- what the carrier took between commitments and challenge
-  pub data MiddleHeld (g : Given) (a : Asked) (r : ℕ) (held : List ℕ) : Type 0 where
-    none-held : o .scheme ≡ 3 → MiddleHeld g a r held
-    middle-held : (o .scheme ≡ 3 → ⊥) → (α : ℕ) (l : List ℕ) → a .alphas r ≡ some α → g .middles r ≡ some l → held ≡ CarrierCalls.heldMiddle α l →
-        MiddleHeld g a r held
-
-  pub data CarrierState (g : Given) (a : Asked) (carrier : Carrier) (r : ℕ) : Type 0 where
-    commitments-due : r < o .rounds → carrier ≡ carrierAt TakeCommitments r (zeros 96) (zeros 193) 0 → Clear (a .alphas) r → Clear (a .challenges) r →
-        CarrierState g a carrier r
-    alpha-due : (c : List ℕ) → r < o .rounds → (o .scheme ≡ 3 → ⊥) → g .commitments r ≡ some c →
-        carrier ≡ carrierAt SetAlpha r (Vector.held c) (zeros 193) 0 → Clear (a .alphas) r → Clear (a .challenges) r → CarrierState g a carrier r
-    middle-due : (c : List ℕ) (α : ℕ) → r < o .rounds → (o .scheme ≡ 3 → ⊥) → g .commitments r ≡ some c → a .alphas r ≡ some α →
-        carrier ≡ carrierAt TakeMiddle r (Vector.held c) (CarrierCalls.heldMiddle α []) 0 → Clear (a .alphas) (r + 1) → Clear (a .challenges) r →
-        CarrierState g a carrier r
-    challenge-due : (c held : List ℕ) → r < o .rounds → g .commitments r ≡ some c → MiddleHeld g a r held →
-        carrier ≡ carrierAt SetChallenge r (Vector.held c) held 0 → Clear (a .alphas) (r + 1) → Clear (a .challenges) r → CarrierState g a carrier r
-    reply-due : (c held : List ℕ) (challenge : ℕ) → r < o .rounds → g .commitments r ≡ some c → MiddleHeld g a r held → a .challenges r ≡ some challenge →
-        carrier ≡ carrierAt TakeReply r (Vector.held c) held challenge → Clear (a .alphas) (r + 1) → Clear (a .challenges) (r + 1) →
-        CarrierState g a carrier r
-    accepted : r ≡ o .rounds → carrier ≡ CarrierCalls.closedCarrier Accepted (o .rounds) → CarrierState g a carrier r
-
   -- ---- both ends
 
+  -- what the carrier took was given by the card, for that round
+  pub record TakenGiven (g : Given) (t : Taken) : Type 0 where
+    pub commitments-given : Stays (t .commitments) (g .commitments)
+    pub middles-given : Stays (t .middles) (g .middles)
+
   pub record Link (w : World) : Type 0 where
-    pub card-state : CardState (w .given) (w .asked) (w .card) (w .cardRound)
-    pub past : (k : ℕ) → k < w .cardRound → Past (w .given) (w .asked) k
-    pub carrier-state : CarrierState (w .given) (w .asked) (w .carrier) (w .carrierRound)
-    pub behind : w .carrierRound ≤ w .cardRound
+    pub card-state : CardState (w .history .given) (w .history .asked) (w .card) (w .history .cardRound)
+    pub past : (k : ℕ) → k < w .history .cardRound → Past (w .history .given) (w .history .asked) k
+    pub card-history : CardHistory o w
+    pub carrier-history : CarrierHistory o w
+    pub taken-given : TakenGiven (w .history .given) (w .history .taken)
+    pub all-accepted : AllAccepted (w .history .judged) (w .history .carrierRound)
+    pub behind : w .history .carrierRound ≤ w .history .cardRound
 
   -- ---- what was given stays
 
@@ -158,16 +131,3 @@ module _ (o : Opening) where
   card-stays ks (is-committed lent h other l e c cn m p) = is-committed lent h other l e c cn m p
   card-stays {g = g} ks (is-ready lent h l e c cn m mn p) = is-ready lent h l e c cn (middle-stays _ lent (given-same g) ks m) mn p
   card-stays ks (is-over h e p) = is-over h e p
-
-  held-stays : {g g′ : Given} {a : Asked} (r : ℕ) (held : List ℕ) → GivenStays g g′ → MiddleHeld g a r held → MiddleHeld g′ a r held
-  held-stays r held gs (none-held e) = none-held e
-  held-stays r held gs (middle-held other α l ea eg e) = middle-held other α l ea (gs .middles-stay r _ eg) e
-
-  -- and the carrier's of what the card gave
-  pub carrier-stays : {g g′ : Given} {a : Asked} {carrier : Carrier} {r : ℕ} → GivenStays g g′ → CarrierState g a carrier r → CarrierState g′ a carrier r
-  carrier-stays gs (commitments-due h e al ch) = commitments-due h e al ch
-  carrier-stays gs (alpha-due c h other eg e al ch) = alpha-due c h other (gs .commitments-stay _ _ eg) e al ch
-  carrier-stays gs (middle-due c α h other eg ea e al ch) = middle-due c α h other (gs .commitments-stay _ _ eg) ea e al ch
-  carrier-stays gs (challenge-due c held h eg m e al ch) = challenge-due c held h (gs .commitments-stay _ _ eg) (held-stays _ held gs m) e al ch
-  carrier-stays gs (reply-due c held challenge h eg m ec e al ch) = reply-due c held challenge h (gs .commitments-stay _ _ eg) (held-stays _ held gs m) ec e al ch
-  carrier-stays gs (accepted h e) = accepted h e

@@ -1,3 +1,5 @@
--- What the claim about whole honest sessions says, in document 01's terms: "Sessions".
+-- What is claimed of whole sessions, in document 01's terms: "Sessions".
+pub mod Honest
+pub mod Histories
 pub mod Played
 pub mod Session

@@ -1,5 +1,6 @@
 -- A session played through: the list of calls in which none is refused, from the openings to the taking of round N's reply. There is one for every opening
--- that document 01 lets through and all that may be drawn (`whole-session`), so the claim about honest sessions speaks of whole sessions of each length.
+-- that document 01 lets through and all that may be drawn (`whole-session`), and zeros may be drawn (`zeros-fit`), so the claim about honest sessions speaks of
+-- whole sessions of each length.
 use Prim.Native.Nat.{ℕ, _+_, _≤_, _<_}
 use mathlib.Core.Path.{_≡_}
 use mathlib.Core.Bool.{cond}
@@ -7,22 +8,28 @@ use mathlib.Core.Logic.{_⊎_}
 use mathlib.Core.List.{List, [], _∷_, _++_}
 use lib.Dec.{eqb}
 use lib.ListN.{length, take}
+use Rattle.slices.specs.Slices.{zeros}
 use Rattle.field.specs.Vector.{held}
 use Rattle.system.specs.System.{qOf, nOf, mOf, WellFormedSystem, F}
 use Rattle.scheme.specs.Scheme.{challenges, commitmentsLength, replyLength}
 use Rattle.record_form.specs.Record.{Elements}
 use Rattle.card_state.specs.declared.session.Card.{Card}
 use Rattle.card_state.specs.Card.{openedCard, committedCard, sentCommitments, sentMiddle, sentReply}
-use Rattle.session.specs.Session.{Opening, Call, commit, answerAlpha, reply, takeCommitments, setAlpha, takeMiddle, setChallenge, takeReply, World, refusal, step, Unaltered}
+use Rattle.session.specs.Session.{Opening, Call, commit, answerAlpha, reply, takeCommitments, setAlpha, takeMiddle, setChallenge, takeReply, World, refusal, step}
+use Rattle.session.specs.Honest.{Unaltered}
 
--- "An opening to which no numbered refusal applies isn't refused.": none of the system's, no 1, 2, 3 or 5
-pub record Openable (o : Opening) : Type 0 where
+-- "An opening to which no numbered refusal applies isn't refused.": the carrier's, with none of the system's and no 1, 2 or 3; v need be no F(s)
+pub record CarrierOpenable (o : Opening) : Type 0 where
   pub system-well-formed : WellFormedSystem (o .system)
   pub scheme-value : (o .scheme ≡ 3) ⊎ (o .scheme ≡ 5)
   pub some-rounds : 1 ≤ o .rounds
   pub most-rounds : o .rounds ≤ 255
   pub key-length : length (o .key) ≡ mOf (o .system)
   pub key-elements : Elements (qOf (o .system)) (o .key)
+
+-- the card's: the same of s, and no 5
+pub record Openable (o : Opening) : Type 0 where
+  pub for-carrier : CarrierOpenable o
   pub secret-length : length (o .secret) ≡ nOf (o .system)
   pub secret-elements : Elements (qOf (o .system)) (o .secret)
   pub key-of-secret : F (o .system) (held (o .secret)) ≡ held (o .key)
@@ -39,6 +46,10 @@ pub record Fits (o : Opening) (d : Draw) : Type 0 where
   pub lent-elements : Elements (qOf (o .system)) (take (nOf (o .system) + nOf (o .system) + mOf (o .system)) (d .lent))
   pub alpha-element : (o .scheme ≡ 3 → ⊥) → d .α < qOf (o .system)
   pub challenge-value : d .challenge < challenges (o .scheme)
+
+-- nothing but zeros
+unfoldable pub zeroDraw : Opening → Draw
+zeroDraw o = record { lent = zeros (nOf (o .system) + nOf (o .system) + mOf (o .system) + commitmentsLength (o .scheme)); α = 0; challenge = 0 }
 
 -- each of them, a round each
 unfoldable pub AllFit : Opening → List Draw → Type 0
@@ -80,22 +91,32 @@ module _ (o : Opening) where
     abbrev pub judging : Call
     judging = takeReply (o .system) (sentReply lending (d .challenge))
 
-    -- "per round take commitments, set α (scheme 5), take t1 and e1 (scheme 5), set challenge, take reply", each behind the card's call that it waits for
+    -- a round from the commitments that are given to the reply that is given: "per round take commitments, set α (scheme 5), take t1 and e1 (scheme 5), set
+    -- challenge", each behind the card's call that it waits for
     abbrev pub threeCalls : List Call
-    threeCalls = committing ∷ taking ∷ asking ∷ replying ∷ judging ∷ []
+    threeCalls = taking ∷ asking ∷ replying ∷ []
 
     abbrev pub fiveCalls : List Call
-    fiveCalls = committing ∷ taking ∷ setting ∷ answering ∷ taking-middle ∷ asking ∷ replying ∷ judging ∷ []
+    fiveCalls = taking ∷ setting ∷ answering ∷ taking-middle ∷ asking ∷ replying ∷ []
 
-    abbrev pub roundCalls : List Call
-    roundCalls = cond (eqb (o .scheme) 3) threeCalls fiveCalls
+    abbrev pub exchanging : List Call
+    exchanging = cond (eqb (o .scheme) 3) threeCalls fiveCalls
 
   -- round after round
   unfoldable pub sessionCalls : List Draw → List Call
   sessionCalls [] = []
-  sessionCalls (d ∷ ds) = roundCalls d ++ sessionCalls ds
+  sessionCalls (d ∷ ds) = committing d ∷ exchanging d ++ judging d ∷ sessionCalls ds
+
+  -- the card a round ahead: it commits the next round before the carrier takes the reply
+  unfoldable pub aheadFrom : Draw → List Draw → List Call
+  aheadFrom d [] = exchanging d ++ judging d ∷ []
+  aheadFrom d (next ∷ ds) = exchanging d ++ committing next ∷ judging d ∷ aheadFrom next ds
+
+  unfoldable pub aheadCalls : List Draw → List Call
+  aheadCalls [] = []
+  aheadCalls (d ∷ ds) = committing d ∷ aheadFrom d ds
 
 -- each call in its turn is not refused and unaltered, and at the end of the list round N's reply has been taken
 unfoldable pub Plays : Opening → World → List Call → Type 0
-Plays o w [] = w .carrierRound ≡ o .rounds
-Plays o w (c ∷ cs) = (refusal w c ≡ 0) × Unaltered o w c × Plays o (step w c) cs
+Plays o w [] = w .history .carrierRound ≡ o .rounds
+Plays o w (c ∷ cs) = (refusal w c ≡ 0) × Unaltered o (w .history) c × Plays o (step w c) cs

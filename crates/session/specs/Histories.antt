@@ -1,0 +1,172 @@
+-- What is claimed of every list of calls, honest or not, from an opening that is not refused: by what a reply is judged, what the count counts, when a session
+-- is closed, and which call is due. All of it is said by what has happened (`History`) and never by the sessions.
+use Prim.Native.Nat.{ℕ, zero, suc, _+_, _<_}
+use mathlib.Core.Path.{_≡_}
+use mathlib.Core.Bool.{false, cond}
+use mathlib.Core.List.{List, [], _∷_}
+use mathlib.Core.Logic.{_⊎_, _↔_}
+use mathlib.Core.Option.{Option, some, none}
+use lib.Dec.{eqb}
+use Rattle.field.specs.Vector.{held}
+use Rattle.exchange.specs.Messages.{accepts}
+use Rattle.session_state.specs.declared.Verdict.the-variants.{Accepted, Rejected}
+use Rattle.card_state.specs.declared.session.CardPhase.{CardPhase}
+use Rattle.card_state.specs.declared.session.CardPhase.the-variants.{Commit, AnswerAlpha, Reply}
+use Rattle.card_state.specs.declared.session.CardPhase.the-variants as CardPhases
+use Rattle.card_state.specs.Card as CardCalls
+use Rattle.carrier_state.specs.declared.session.CarrierPhase.{CarrierPhase}
+use Rattle.carrier_state.specs.declared.session.CarrierPhase.the-variants.{TakeCommitments, SetAlpha, TakeMiddle, SetChallenge, TakeReply}
+use Rattle.carrier_state.specs.declared.session.CarrierPhase.the-variants as CarrierPhases
+use Rattle.carrier_state.specs.Carrier as CarrierCalls
+use Rattle.session.specs.Session.{Opening, Call, commit, answerAlpha, reply, takeCommitments, setAlpha, takeMiddle, setChallenge, takeReply, Log, Judgement, History, World, refusal}
+
+-- ---- the check of what was taken
+
+-- what stands between commitments and challenge: nothing, or α, t1 and e1
+pub data Middle (o : Opening) (alphas : Log ℕ) (middles : Log (List ℕ)) (r : ℕ) : List ℕ → Type 0 where
+  none-sent : o .scheme ≡ 3 → Middle o alphas middles r []
+  sent : (o .scheme ≡ 3 → ⊥) → (α : ℕ) (l : List ℕ) → alphas r ≡ some α → middles r ≡ some l → Middle o alphas middles r (α ∷ l)
+
+-- "Taking a reply answers accept or reject.": the answer is the scheme's check, with the opening's scheme and key, of the very messages that the carrier took
+-- and set for the round
+pub record JudgedByCheck (o : Opening) (h : History) (r : ℕ) : Type 0 where
+  pub commitments : List ℕ
+  pub middle : List ℕ
+  pub challenge : ℕ
+  pub system : List ℕ
+  pub reply : List ℕ
+  pub commitments-taken : h .taken .commitments r ≡ some commitments
+  pub middle-taken : Middle o (h .asked .alphas) (h .taken .middles) r middle
+  pub challenge-set : h .asked .challenges r ≡ some challenge
+  pub reply-judged : h .judged r ≡ some (record { system = system; reply = reply; answer = accepts system (o .scheme) (held (o .key)) commitments middle challenge reply })
+
+-- ---- the count
+
+unfoldable pub acceptOf : Option Judgement → ℕ
+acceptOf none = 0
+acceptOf (some j) = cond (j .answer) 1 0
+
+-- how many of the first n replies were answered with accept
+unfoldable pub acceptCount : Log Judgement → ℕ → ℕ
+acceptCount judged zero = 0
+acceptCount judged (suc k) = acceptCount judged k + acceptOf (judged k)
+
+-- ---- when a session is over
+
+-- "After round N the card's session is closed": N replies were given
+abbrev pub CardOver : Opening → History → Type 0
+CardOver o h = h .cardRound ≡ o .rounds
+
+-- "A rejected round closes the session as rejected"
+abbrev pub RejectedOne : History → Type 0
+RejectedOne h = (r : ℕ) × (j : Judgement) × (h .judged r ≡ some j) × (j .answer ≡ false)
+
+-- "the N-th accepted round closes it as accepted"
+abbrev pub AcceptedAll : Opening → History → Type 0
+AcceptedAll o h = acceptCount (h .judged) (h .carrierRound) ≡ o .rounds
+
+abbrev pub CarrierOver : Opening → History → Type 0
+CarrierOver o h = RejectedOne h ⊎ AcceptedAll o h
+
+-- ---- which call is due
+
+abbrev pub IsGiven : {A : Type 0} → Option A → Type 0
+IsGiven {A = A} message = (x : A) × (message ≡ some x)
+
+-- the first in a round's order that has not been made
+pub data Next {A : Type 0} (Made : A → Type 0) : List A → A → Type 0 where
+  here : (a : A) (rest : List A) → (Made a → ⊥) → Next Made (a ∷ rest) a
+  later : (a b : A) (rest : List A) → Made a → Next Made rest b → Next Made (a ∷ rest) b
+
+-- "then per round commit and reply, in scheme 5 with the reply to α between"
+unfoldable pub cardOrder : ℕ → List CardPhase
+cardOrder scheme = cond (eqb scheme 3) (Commit ∷ Reply ∷ []) (Commit ∷ AnswerAlpha ∷ Reply ∷ [])
+
+-- made: what it gives was given in this round
+unfoldable pub CardMade : History → CardPhase → Type 0
+CardMade h Commit = IsGiven (h .given .commitments (h .cardRound))
+CardMade h AnswerAlpha = IsGiven (h .given .middles (h .cardRound))
+CardMade h Reply = IsGiven (h .given .replies (h .cardRound))
+CardMade h (CardPhases.Closed verdict) = ⊥
+
+-- "then per round take commitments, set α (scheme 5), take t1 and e1 (scheme 5), set challenge, take reply"
+unfoldable pub carrierOrder : ℕ → List CarrierPhase
+carrierOrder scheme =
+    cond (eqb scheme 3) (TakeCommitments ∷ SetChallenge ∷ TakeReply ∷ []) (TakeCommitments ∷ SetAlpha ∷ TakeMiddle ∷ SetChallenge ∷ TakeReply ∷ [])
+
+-- made: what it takes or sets was taken or set in this round
+unfoldable pub CarrierMade : History → CarrierPhase → Type 0
+CarrierMade h TakeCommitments = IsGiven (h .taken .commitments (h .carrierRound))
+CarrierMade h SetAlpha = IsGiven (h .asked .alphas (h .carrierRound))
+CarrierMade h TakeMiddle = IsGiven (h .taken .middles (h .carrierRound))
+CarrierMade h SetChallenge = IsGiven (h .asked .challenges (h .carrierRound))
+CarrierMade h TakeReply = IsGiven (h .judged (h .carrierRound))
+CarrierMade h (CarrierPhases.Closed verdict) = ⊥
+
+-- the call of this phase is due: the session is not over, and this is next in the round
+abbrev pub CardDue : Opening → History → CardPhase → Type 0
+CardDue o h phase = (CardOver o h → ⊥) × Next (CardMade h) (cardOrder (o .scheme)) phase
+
+abbrev pub CarrierDue : Opening → History → CarrierPhase → Type 0
+CarrierDue o h phase = (CarrierOver o h → ⊥) × Next (CarrierMade h) (carrierOrder (o .scheme)) phase
+
+-- the card's calls; the others are the carrier's
+unfoldable pub OnCard : Call → Type 0
+OnCard (commit b lent out) = Unit
+OnCard (answerAlpha b α out) = Unit
+OnCard (reply challenge out) = Unit
+OnCard (takeCommitments commitments) = ⊥
+OnCard (setAlpha α) = ⊥
+OnCard (takeMiddle middle) = ⊥
+OnCard (setChallenge challenge) = ⊥
+OnCard (takeReply b r) = ⊥
+
+-- of a call: its end's session is over
+unfoldable pub Over : Opening → History → Call → Type 0
+Over o h (commit b lent out) = CardOver o h
+Over o h (answerAlpha b α out) = CardOver o h
+Over o h (reply challenge out) = CardOver o h
+Over o h (takeCommitments commitments) = CarrierOver o h
+Over o h (setAlpha α) = CarrierOver o h
+Over o h (takeMiddle middle) = CarrierOver o h
+Over o h (setChallenge challenge) = CarrierOver o h
+Over o h (takeReply b r) = CarrierOver o h
+
+-- of a call: it is the one that is due
+unfoldable pub IsDue : Opening → History → Call → Type 0
+IsDue o h (commit b lent out) = CardDue o h Commit
+IsDue o h (answerAlpha b α out) = CardDue o h AnswerAlpha
+IsDue o h (reply challenge out) = CardDue o h Reply
+IsDue o h (takeCommitments commitments) = CarrierDue o h TakeCommitments
+IsDue o h (setAlpha α) = CarrierDue o h SetAlpha
+IsDue o h (takeMiddle middle) = CarrierDue o h TakeMiddle
+IsDue o h (setChallenge challenge) = CarrierDue o h SetChallenge
+IsDue o h (takeReply b r) = CarrierDue o h TakeReply
+
+-- ---- what is claimed
+
+-- of a call: "10 a call that isn't the one due. 11 a closed session."
+pub record StateRefusals (o : Opening) (w : World) (c : Call) : Type 0 where
+  pub eleven-exactly : (refusal w c ≡ 11) ↔ Over o (w .history) c
+  pub ten-exactly : (refusal w c ≡ 10) ↔ ((Over o (w .history) c → ⊥) × (IsDue o (w .history) c → ⊥))
+
+-- of the carrier, whose opening was not refused
+pub record CarrierClaim (o : Opening) (w : World) : Type 0 where
+  -- each round that is over was judged by the scheme's check of what was taken and set for it, and no other was judged
+  pub judged : (r : ℕ) → r < w .history .carrierRound → JudgedByCheck o (w .history) r
+  pub unjudged : (r : ℕ) → IsGiven (w .history .judged r) → r < w .history .carrierRound
+  -- "it equals the rounds accepted by definition"
+  pub count : w .carrier .accepted ≡ acceptCount (w .history .judged) (w .history .carrierRound)
+  pub rejected-exactly : (w .carrier .phase ≡ CarrierPhases.Closed Rejected) ↔ RejectedOne (w .history)
+  pub accepted-exactly : (w .carrier .phase ≡ CarrierPhases.Closed Accepted) ↔ AcceptedAll o (w .history)
+  -- "The next call due is held as one of a few named phases."
+  pub phase-is : (phase : CarrierPhase) → (CarrierCalls.phaseNumber phase ≡ 0 → ⊥) → (w .carrier .phase ≡ phase) ↔ CarrierDue o (w .history) phase
+  pub state-refusals : (c : Call) → (OnCard c → ⊥) → StateRefusals o w c
+
+-- of the card, whose opening was not refused
+pub record CardClaim (o : Opening) (w : World) : Type 0 where
+  pub replies-given : (r : ℕ) → IsGiven (w .history .given .replies r) ↔ (r < w .history .cardRound)
+  -- "After round N the card's session is closed and every number in it is zero.", and no sooner
+  pub closed-exactly : (w .card ≡ CardCalls.closedCard) ↔ CardOver o (w .history)
+  pub phase-is : (phase : CardPhase) → (CardCalls.phaseNumber phase ≡ 0 → ⊥) → (w .card .phase ≡ phase) ↔ CardDue o (w .history) phase
+  pub state-refusals : (c : Call) → OnCard c → StateRefusals o w c
