@@ -29,7 +29,7 @@ use Rattle.carrier_state.specs.declared.session.Carrier.{Carrier}
 use Rattle.carrier_state.specs.Carrier as CarrierCalls
 use Rattle.carrier_state.proofs.Eleven as CarrierEleven
 use Rattle.session.specs.Session.{Opening, Call, commit, answerAlpha, reply, takeCommitments, setAlpha, takeMiddle, setChallenge, takeReply, Log, Judgement, World, opened, refusal, effect, step, after}
-use Rattle.session.specs.Histories.{acceptOf, acceptCount, CardOver, RejectedOne, AcceptedAll, CarrierOver, IsGiven, Next, here, later, cardOrder, CardMade, carrierOrder, CarrierMade, CardDue, CarrierDue, OnCard, Over, IsDue, StateRefusals, CarrierClaim, CardClaim}
+use Rattle.session.specs.Histories.{acceptOf, acceptCount, CardOver, RejectedOne, AcceptedAll, CarrierOver, IsGiven, Next, here, later, cardThree, cardFive, cardOrder, CardMade, carrierThree, carrierFive, carrierOrder, CarrierMade, Place, on-card, on-carrier, placeOf, OnCard, OverAt, NextAt, DueAt, IsOver, IsDue, StateRefusals, CarrierClaim, CardClaim}
 use Rattle.session.proofs.Logs.{Clear, none-given, given-before}
 use Rattle.session.proofs.Phases.{same-card-phase, same-carrier-phase, not-both, next-unique}
 use Rattle.session.proofs.CarrierHistory as Ca
@@ -185,8 +185,8 @@ module _ (o : Opening) (w : World) where
 
   -- ---- the call that is due
 
-  carrier-order : (p : CarrierPhase) → (o .scheme ≡ 3 → Next (CarrierMade (w .history)) (TakeCommitments ∷ SetChallenge ∷ TakeReply ∷ []) p) →
-      ((o .scheme ≡ 3 → ⊥) → Next (CarrierMade (w .history)) (TakeCommitments ∷ SetAlpha ∷ TakeMiddle ∷ SetChallenge ∷ TakeReply ∷ []) p) →
+  carrier-order : (p : CarrierPhase) → (o .scheme ≡ 3 → Next (CarrierMade (w .history)) carrierThree p) →
+      ((o .scheme ≡ 3 → ⊥) → Next (CarrierMade (w .history)) carrierFive p) →
       Next (CarrierMade (w .history)) (carrierOrder (o .scheme)) p
   unfolding carrierOrder
   carrier-order p three five = by-scheme (o .scheme) (λ e. rw e (three e)) (λ other. rw (ne-eqb (o .scheme) 3 other) (five other))
@@ -212,16 +212,17 @@ module _ (o : Opening) (w : World) where
       carrier-order p (λ three. absurd (five three))
       (λ other. later _ _ _ (c, taken .taken) (later _ _ _ (α, set) (later _ _ _ (l, got) (later _ _ _ (challenge, asked) (here _ _ (not-given _ _ unjudged))))))
 
-  carrier-phase-is : CarrierHistory o w → (p : CarrierPhase) → (CarrierCalls.phaseNumber p ≡ 0 → ⊥) → (w .carrier .phase ≡ p) ↔ CarrierDue o (w .history) p
+  carrier-phase-is : CarrierHistory o w → (p : CarrierPhase) → (CarrierCalls.phaseNumber p ≡ 0 → ⊥) → (w .carrier .phase ≡ p) ↔ DueAt o (w .history) (on-carrier p)
+  unfolding OverAt NextAt
   carrier-phase-is x p nonzero = (to, from (x .state))
     where
-      to : w .carrier .phase ≡ p → CarrierDue o (w .history) p
+      to : w .carrier .phase ≡ p → DueAt o (w .history) (on-carrier p)
       to e =
           let f = Ca.at-phase o (x .state) p nonzero (ap CarrierCalls.phaseNumber e) in
           (alive x (f .below) (f .all-accepted), progress-next (x .no-judgements) p (f .progress))
 
       from : CarrierState o (w .history .asked) (w .history .taken) (w .history .judged) (w .carrier) (w .history .carrierRound) →
-          CarrierDue o (w .history) p → w .carrier .phase ≡ p
+          DueAt o (w .history) (on-carrier p) → w .carrier .phase ≡ p
       from (Ca.going q below all progress) (open-yet, next) =
           Ca.progress-phase o progress ∙ next-unique _ q p (progress-next (x .no-judgements) q progress) next
       from (Ca.accepted over all e) (open-yet, next) = absurd (open-yet (inr (all-count _ _ all ∙ over)))
@@ -244,8 +245,8 @@ module _ (o : Opening) (w : World) where
 
   -- ---- what follows of the card
 
-  card-order : (p : CardPhase) → (o .scheme ≡ 3 → Next (CardMade (w .history)) (Commit ∷ Reply ∷ []) p) →
-      ((o .scheme ≡ 3 → ⊥) → Next (CardMade (w .history)) (Commit ∷ AnswerAlpha ∷ Reply ∷ []) p) → Next (CardMade (w .history)) (cardOrder (o .scheme)) p
+  card-order : (p : CardPhase) → (o .scheme ≡ 3 → Next (CardMade (w .history)) cardThree p) →
+      ((o .scheme ≡ 3 → ⊥) → Next (CardMade (w .history)) cardFive p) → Next (CardMade (w .history)) (cardOrder (o .scheme)) p
   unfolding cardOrder
   card-order p three five = by-scheme (o .scheme) (λ e. rw e (three e)) (λ other. rw (ne-eqb (o .scheme) 3 other) (five other))
 
@@ -261,15 +262,16 @@ module _ (o : Opening) (w : World) where
       card-order p (λ three. later _ _ _ given (here _ _ (not-given _ _ unreplied)))
       (λ other. later _ _ _ given (later _ _ _ middle (here _ _ (not-given _ _ unreplied))))
 
-  card-phase-is : CardHistory o w → (p : CardPhase) → (CardCalls.phaseNumber p ≡ 0 → ⊥) → (w .card .phase ≡ p) ↔ CardDue o (w .history) p
+  card-phase-is : CardHistory o w → (p : CardPhase) → (CardCalls.phaseNumber p ≡ 0 → ⊥) → (w .card .phase ≡ p) ↔ DueAt o (w .history) (on-card p)
+  unfolding OverAt NextAt
   card-phase-is x p nonzero = (to, from (x .goes))
     where
-      to : w .card .phase ≡ p → CardDue o (w .history) p
+      to : w .card .phase ≡ p → DueAt o (w .history) (on-card p)
       to e =
           let f = Cd.at-phase o (x .goes) p nonzero (ap CardCalls.phaseNumber e) in
           (λ over. absurd (omega (arith, f .below, over)), card-next (x .no-replies) p (f .progress))
 
-      from : CardGoes o (w .history .given) (w .card) (w .history .cardRound) → CardDue o (w .history) p → w .card .phase ≡ p
+      from : CardGoes o (w .history .given) (w .card) (w .history .cardRound) → DueAt o (w .history) (on-card p) → w .card .phase ≡ p
       from (Cd.going q below progress) (open-yet, next) = Cd.progress-phase o progress ∙ next-unique _ q p (card-next (x .no-replies) q progress) next
       from (Cd.over all e) (open-yet, next) = absurd (open-yet all)
 
@@ -305,49 +307,49 @@ by-state number phase due s closed turn =
 
 module _ (o : Opening) (w : World) where
   pub carrier-number : CarrierHistory o w → (p : CarrierPhase) → (CarrierCalls.phaseNumber p ≡ 0 → ⊥) →
-      (CarrierCalls.phaseNumber (w .carrier .phase) ≡ CarrierCalls.phaseNumber p) ↔ CarrierDue o (w .history) p
+      (CarrierCalls.phaseNumber (w .carrier .phase) ≡ CarrierCalls.phaseNumber p) ↔ DueAt o (w .history) (on-carrier p)
   carrier-number x p nonzero =
       let is = carrier-phase-is o w x p nonzero in
       (λ e. is .0 (same-carrier-phase (w .carrier .phase) p nonzero e), λ due. ap CarrierCalls.phaseNumber (is .1 due))
 
   pub card-number : CardHistory o w → (p : CardPhase) → (CardCalls.phaseNumber p ≡ 0 → ⊥) →
-      (CardCalls.phaseNumber (w .card .phase) ≡ CardCalls.phaseNumber p) ↔ CardDue o (w .history) p
+      (CardCalls.phaseNumber (w .card .phase) ≡ CardCalls.phaseNumber p) ↔ DueAt o (w .history) (on-card p)
   card-number x p nonzero =
       let is = card-phase-is o w x p nonzero in
       (λ e. is .0 (same-card-phase (w .card .phase) p nonzero e), λ due. ap CardCalls.phaseNumber (is .1 due))
 
-  on-carrier : CarrierHistory o w → (c : Call) (p : CarrierPhase) → (CarrierCalls.phaseNumber p ≡ 0 → ⊥) →
-      ByState (refusal w c) (CarrierCalls.phaseNumber (w .carrier .phase)) (CarrierCalls.phaseNumber p) → Over o (w .history) c ≡ CarrierOver o (w .history) →
-      IsDue o (w .history) c ≡ CarrierDue o (w .history) p → StateRefusals o w c
-  on-carrier x c p nonzero s over due =
-      let (eleven, ten) = by-state (refusal w c) _ _ s (carrier-closed o w x) (carrier-number x p nonzero) in
-      record { eleven-exactly = rw over eleven; ten-exactly = rw (over, due) ten }
+  carrier-state : CarrierHistory o w → (c : Call) (p : CarrierPhase) → (CarrierCalls.phaseNumber p ≡ 0 → ⊥) →
+      ByState (refusal w c) (CarrierCalls.phaseNumber (w .carrier .phase)) (CarrierCalls.phaseNumber p) → placeOf c ≡ on-carrier p → StateRefusals o w c
+  unfolding OverAt
+  carrier-state x c p nonzero s at =
+      let both = by-state (refusal w c) _ _ s (carrier-closed o w x) (carrier-number x p nonzero) in
+      record { eleven-exactly = rw at (both .0); ten-exactly = rw at (both .1) }
 
-  on-card : CardHistory o w → (c : Call) (p : CardPhase) → (CardCalls.phaseNumber p ≡ 0 → ⊥) →
-      ByState (refusal w c) (CardCalls.phaseNumber (w .card .phase)) (CardCalls.phaseNumber p) → Over o (w .history) c ≡ CardOver o (w .history) →
-      IsDue o (w .history) c ≡ CardDue o (w .history) p → StateRefusals o w c
-  on-card x c p nonzero s over due =
-      let (eleven, ten) = by-state (refusal w c) _ _ s (card-closed o w x) (card-number x p nonzero) in
-      record { eleven-exactly = rw over eleven; ten-exactly = rw (over, due) ten }
+  card-state : CardHistory o w → (c : Call) (p : CardPhase) → (CardCalls.phaseNumber p ≡ 0 → ⊥) →
+      ByState (refusal w c) (CardCalls.phaseNumber (w .card .phase)) (CardCalls.phaseNumber p) → placeOf c ≡ on-card p → StateRefusals o w c
+  unfolding OverAt
+  card-state x c p nonzero s at =
+      let both = by-state (refusal w c) _ _ s (card-closed o w x) (card-number x p nonzero) in
+      record { eleven-exactly = rw at (both .0); ten-exactly = rw at (both .1) }
 
-  card-refusals : CardHistory o w → (c : Call) → OnCard c → StateRefusals o w c
-  unfolding refusal Over IsDue OnCard CardCalls.phaseNumber
-  card-refusals x (commit b lent out) on = on-card x (commit b lent out) Commit (λ e. absurd (omega arith)) (CardEleven.commit-by-state (w .card) b lent out) refl refl
-  card-refusals x (answerAlpha b α out) on = on-card x (answerAlpha b α out) AnswerAlpha (λ e. absurd (omega arith)) (CardEleven.alpha-by-state (w .card) b α out) refl refl
-  card-refusals x (reply challenge out) on = on-card x (reply challenge out) Reply (λ e. absurd (omega arith)) (CardEleven.reply-by-state (w .card) challenge out) refl refl
+  card-refusals : CardHistory o w → (c : Call) → OnCard (placeOf c) → StateRefusals o w c
+  unfolding refusal placeOf OnCard CardCalls.phaseNumber
+  card-refusals x (commit b lent out) on = card-state x (commit b lent out) Commit (λ e. absurd (omega arith)) (CardEleven.commit-by-state (w .card) b lent out) refl
+  card-refusals x (answerAlpha b α out) on = card-state x (answerAlpha b α out) AnswerAlpha (λ e. absurd (omega arith)) (CardEleven.alpha-by-state (w .card) b α out) refl
+  card-refusals x (reply challenge out) on = card-state x (reply challenge out) Reply (λ e. absurd (omega arith)) (CardEleven.reply-by-state (w .card) challenge out) refl
 
-  carrier-refusals : CarrierHistory o w → (c : Call) → (OnCard c → ⊥) → StateRefusals o w c
-  unfolding refusal Over IsDue OnCard CarrierCalls.phaseNumber
+  carrier-refusals : CarrierHistory o w → (c : Call) → (OnCard (placeOf c) → ⊥) → StateRefusals o w c
+  unfolding refusal placeOf OnCard CarrierCalls.phaseNumber
   carrier-refusals x (commit b lent out) other = absurd (other tt)
   carrier-refusals x (answerAlpha b α out) other = absurd (other tt)
   carrier-refusals x (reply challenge out) other = absurd (other tt)
   carrier-refusals x (takeCommitments c) other =
-      on-carrier x (takeCommitments c) TakeCommitments (λ e. absurd (omega arith)) (CarrierEleven.commitments-by-state (w .carrier) c) refl refl
-  carrier-refusals x (setAlpha α) other = on-carrier x (setAlpha α) SetAlpha (λ e. absurd (omega arith)) (CarrierEleven.alpha-by-state (w .carrier) α) refl refl
-  carrier-refusals x (takeMiddle l) other = on-carrier x (takeMiddle l) TakeMiddle (λ e. absurd (omega arith)) (CarrierEleven.middle-by-state (w .carrier) l) refl refl
+      carrier-state x (takeCommitments c) TakeCommitments (λ e. absurd (omega arith)) (CarrierEleven.commitments-by-state (w .carrier) c) refl
+  carrier-refusals x (setAlpha α) other = carrier-state x (setAlpha α) SetAlpha (λ e. absurd (omega arith)) (CarrierEleven.alpha-by-state (w .carrier) α) refl
+  carrier-refusals x (takeMiddle l) other = carrier-state x (takeMiddle l) TakeMiddle (λ e. absurd (omega arith)) (CarrierEleven.middle-by-state (w .carrier) l) refl
   carrier-refusals x (setChallenge challenge) other =
-      on-carrier x (setChallenge challenge) SetChallenge (λ e. absurd (omega arith)) (CarrierEleven.challenge-by-state (w .carrier) challenge) refl refl
-  carrier-refusals x (takeReply b r) other = on-carrier x (takeReply b r) TakeReply (λ e. absurd (omega arith)) (CarrierEleven.reply-by-state (w .carrier) b r) refl refl
+      carrier-state x (setChallenge challenge) SetChallenge (λ e. absurd (omega arith)) (CarrierEleven.challenge-by-state (w .carrier) challenge) refl
+  carrier-refusals x (takeReply b r) other = carrier-state x (takeReply b r) TakeReply (λ e. absurd (omega arith)) (CarrierEleven.reply-by-state (w .carrier) b r) refl
 
   carrier-claimed : CarrierHistory o w → CarrierClaim o w
   carrier-claimed x =

@@ -17,7 +17,7 @@ use Rattle.card_state.proofs.Taken.{open-taken}
 use Rattle.carrier_state.specs.declared.session.CarrierPhase.the-variants.{TakeCommitments, SetAlpha, TakeMiddle, SetChallenge, TakeReply}
 use Rattle.carrier_state.specs.Carrier as CarrierCalls
 use Rattle.session.specs.Session.{Opening, Call, commit, answerAlpha, reply, takeCommitments, setAlpha, takeMiddle, setChallenge, takeReply, World, opened, refusal, effect, step, after}
-use Rattle.session.specs.Histories.{IsDue}
+use Rattle.session.specs.Histories.{Place, on-card, on-carrier, placeOf, IsDue}
 use Rattle.session.specs.Honest.{Unaltered, Honest, Fitting, Accepts, Ended, DueGoes, Holds}
 use Rattle.session.proofs.Logs.{none-given}
 use Rattle.session.proofs.CarrierHistory as Ca
@@ -64,18 +64,16 @@ start o k =
 
 -- ---- the phase in which a call is due
 
+unfoldable AtPlace : World → Place → Type 0
+AtPlace w (on-card phase) = CardCalls.phaseNumber (w .card .phase) ≡ CardCalls.phaseNumber phase
+AtPlace w (on-carrier phase) = CarrierCalls.phaseNumber (w .carrier .phase) ≡ CarrierCalls.phaseNumber phase
+
 unfoldable pub AtPhase : World → Call → Type 0
-AtPhase w (commit b lent out) = CardCalls.phaseNumber (w .card .phase) ≡ 1
-AtPhase w (answerAlpha b α out) = CardCalls.phaseNumber (w .card .phase) ≡ 2
-AtPhase w (reply challenge out) = CardCalls.phaseNumber (w .card .phase) ≡ 3
-AtPhase w (takeCommitments c) = CarrierCalls.phaseNumber (w .carrier .phase) ≡ 1
-AtPhase w (setAlpha α) = CarrierCalls.phaseNumber (w .carrier .phase) ≡ 2
-AtPhase w (takeMiddle m) = CarrierCalls.phaseNumber (w .carrier .phase) ≡ 3
-AtPhase w (setChallenge challenge) = CarrierCalls.phaseNumber (w .carrier .phase) ≡ 4
-AtPhase w (takeReply b r) = CarrierCalls.phaseNumber (w .carrier .phase) ≡ 5
+unfolding AtPlace placeOf
+AtPhase w c = AtPlace w (placeOf c)
 
 at-phase : (o : Opening) (w : World) (c : Call) → Link o w → IsDue o (w .history) c → AtPhase w c
-unfolding IsDue AtPhase CardCalls.phaseNumber CarrierCalls.phaseNumber
+unfolding placeOf AtPlace AtPhase CardCalls.phaseNumber CarrierCalls.phaseNumber
 at-phase o w (commit b lent out) l due = card-number o w (l .card-history) Commit (λ e. absurd (omega arith)) .1 due
 at-phase o w (answerAlpha b α out) l due = card-number o w (l .card-history) AnswerAlpha (λ e. absurd (omega arith)) .1 due
 at-phase o w (reply challenge out) l due = card-number o w (l .card-history) Reply (λ e. absurd (omega arith)) .1 due
@@ -104,7 +102,7 @@ module _ (o : Opening) (k : Opens o) where
 
   -- a call in its phase is not refused
   pub phase-goes : (w : World) (c : Call) → Link o w → AtPhase w c → Fitting o c → refusal w c ≡ 0
-  unfolding AtPhase Fitting refusal
+  unfolding placeOf AtPlace AtPhase Fitting refusal CardCalls.phaseNumber CarrierCalls.phaseNumber
   phase-goes w (commit b lent out) l phase (e, long, room, elements) = rw e (commit-goes o (k .good) w lent out l phase long room elements)
   phase-goes w (answerAlpha b α out) l phase (e, room, element) = rw e (answer-goes o (k .good) w α out l phase room element)
   phase-goes w (reply challenge out) l phase (room, value) = reply-goes o (k .good) w challenge out l phase room value
@@ -150,16 +148,21 @@ module _ (o : Opening) (k : Opens o) where
 
   -- ---- the whole list
 
+  unaltered : (w : World) (c : Call) (cs : List Call) → Honest o w (c ∷ cs) → refusal w c ≡ 0 → Unaltered o (w .history) c
+  unfolding Honest
+  unaltered w c cs honest none = honest .0 (omega (arith, none))
+
   holds : (cs : List Call) (w : World) → Link o w → Honest o w cs → Holds o w cs
   unfolding Honest Holds
   holds [] w l honest = ended w l
   holds (c ∷ cs) w l honest =
-      (ended w l, due-goes w c l, accepts-each w c l (honest .0), holds cs (step w c) (step-linked w c l (honest .0)) (honest .1))
+      let same = unaltered w c cs honest in
+      (ended w l, due-goes w c l, accepts-each w c l same, holds cs (step w c) (step-linked w c l same) (honest .1))
 
   linked-after : (cs : List Call) (w : World) → Link o w → Honest o w cs → Link o (after w cs)
   unfolding Honest after
   linked-after [] w l honest = l
-  linked-after (c ∷ cs) w l honest = linked-after cs (step w c) (step-linked w c l (honest .0)) (honest .1)
+  linked-after (c ∷ cs) w l honest = linked-after cs (step w c) (step-linked w c l (unaltered w c cs honest)) (honest .1)
 
 -- "It is claimed of the whole list at once": for every list of calls of an honest session, what `Holds` says
 pub honest-session : (o : Opening) → CardCalls.openRefusal (o .system) (o .scheme) (o .rounds) (o .key) (o .secret) ≡ 0 →

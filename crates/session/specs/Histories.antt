@@ -79,8 +79,14 @@ pub data Next {A : Type 0} (Made : A → Type 0) : List A → A → Type 0 where
   later : (a b : A) (rest : List A) → Made a → Next Made rest b → Next Made (a ∷ rest) b
 
 -- "then per round commit and reply, in scheme 5 with the reply to α between"
+abbrev pub cardThree : List CardPhase
+cardThree = Commit ∷ Reply ∷ []
+
+abbrev pub cardFive : List CardPhase
+cardFive = Commit ∷ AnswerAlpha ∷ Reply ∷ []
+
 unfoldable pub cardOrder : ℕ → List CardPhase
-cardOrder scheme = cond (eqb scheme 3) (Commit ∷ Reply ∷ []) (Commit ∷ AnswerAlpha ∷ Reply ∷ [])
+cardOrder scheme = cond (eqb scheme 3) cardThree cardFive
 
 -- made: what it gives was given in this round
 unfoldable pub CardMade : History → CardPhase → Type 0
@@ -90,9 +96,14 @@ CardMade h Reply = IsGiven (h .given .replies (h .cardRound))
 CardMade h (CardPhases.Closed verdict) = ⊥
 
 -- "then per round take commitments, set α (scheme 5), take t1 and e1 (scheme 5), set challenge, take reply"
+abbrev pub carrierThree : List CarrierPhase
+carrierThree = TakeCommitments ∷ SetChallenge ∷ TakeReply ∷ []
+
+abbrev pub carrierFive : List CarrierPhase
+carrierFive = TakeCommitments ∷ SetAlpha ∷ TakeMiddle ∷ SetChallenge ∷ TakeReply ∷ []
+
 unfoldable pub carrierOrder : ℕ → List CarrierPhase
-carrierOrder scheme =
-    cond (eqb scheme 3) (TakeCommitments ∷ SetChallenge ∷ TakeReply ∷ []) (TakeCommitments ∷ SetAlpha ∷ TakeMiddle ∷ SetChallenge ∷ TakeReply ∷ [])
+carrierOrder scheme = cond (eqb scheme 3) carrierThree carrierFive
 
 -- made: what it takes or sets was taken or set in this round
 unfoldable pub CarrierMade : History → CarrierPhase → Type 0
@@ -103,52 +114,51 @@ CarrierMade h SetChallenge = IsGiven (h .asked .challenges (h .carrierRound))
 CarrierMade h TakeReply = IsGiven (h .judged (h .carrierRound))
 CarrierMade h (CarrierPhases.Closed verdict) = ⊥
 
--- the call of this phase is due: the session is not over, and this is next in the round
-abbrev pub CardDue : Opening → History → CardPhase → Type 0
-CardDue o h phase = (CardOver o h → ⊥) × Next (CardMade h) (cardOrder (o .scheme)) phase
+-- the end on which a call is made, and the phase that waits for it there
+pub data Place : Type 0 where
+  on-card : CardPhase → Place
+  on-carrier : CarrierPhase → Place
 
-abbrev pub CarrierDue : Opening → History → CarrierPhase → Type 0
-CarrierDue o h phase = (CarrierOver o h → ⊥) × Next (CarrierMade h) (carrierOrder (o .scheme)) phase
+unfoldable pub placeOf : Call → Place
+placeOf (commit b lent out) = on-card Commit
+placeOf (answerAlpha b α out) = on-card AnswerAlpha
+placeOf (reply challenge out) = on-card Reply
+placeOf (takeCommitments commitments) = on-carrier TakeCommitments
+placeOf (setAlpha α) = on-carrier SetAlpha
+placeOf (takeMiddle middle) = on-carrier TakeMiddle
+placeOf (setChallenge challenge) = on-carrier SetChallenge
+placeOf (takeReply b r) = on-carrier TakeReply
 
--- the card's calls; the others are the carrier's
-unfoldable pub OnCard : Call → Type 0
-OnCard (commit b lent out) = Unit
-OnCard (answerAlpha b α out) = Unit
-OnCard (reply challenge out) = Unit
-OnCard (takeCommitments commitments) = ⊥
-OnCard (setAlpha α) = ⊥
-OnCard (takeMiddle middle) = ⊥
-OnCard (setChallenge challenge) = ⊥
-OnCard (takeReply b r) = ⊥
+unfoldable pub OnCard : Place → Type 0
+OnCard (on-card phase) = Unit
+OnCard (on-carrier phase) = ⊥
 
--- of a call: its end's session is over
-unfoldable pub Over : Opening → History → Call → Type 0
-Over o h (commit b lent out) = CardOver o h
-Over o h (answerAlpha b α out) = CardOver o h
-Over o h (reply challenge out) = CardOver o h
-Over o h (takeCommitments commitments) = CarrierOver o h
-Over o h (setAlpha α) = CarrierOver o h
-Over o h (takeMiddle middle) = CarrierOver o h
-Over o h (setChallenge challenge) = CarrierOver o h
-Over o h (takeReply b r) = CarrierOver o h
+-- the session of that end is over
+unfoldable pub OverAt : Opening → History → Place → Type 0
+OverAt o h (on-card phase) = CardOver o h
+OverAt o h (on-carrier phase) = CarrierOver o h
 
--- of a call: it is the one that is due
-unfoldable pub IsDue : Opening → History → Call → Type 0
-IsDue o h (commit b lent out) = CardDue o h Commit
-IsDue o h (answerAlpha b α out) = CardDue o h AnswerAlpha
-IsDue o h (reply challenge out) = CardDue o h Reply
-IsDue o h (takeCommitments commitments) = CarrierDue o h TakeCommitments
-IsDue o h (setAlpha α) = CarrierDue o h SetAlpha
-IsDue o h (takeMiddle middle) = CarrierDue o h TakeMiddle
-IsDue o h (setChallenge challenge) = CarrierDue o h SetChallenge
-IsDue o h (takeReply b r) = CarrierDue o h TakeReply
+-- the call of that phase is next in the round
+unfoldable pub NextAt : Opening → History → Place → Type 0
+NextAt o h (on-card phase) = Next (CardMade h) (cardOrder (o .scheme)) phase
+NextAt o h (on-carrier phase) = Next (CarrierMade h) (carrierOrder (o .scheme)) phase
+
+-- a call is due where its end's session is not over and it is next in the round
+abbrev pub DueAt : Opening → History → Place → Type 0
+DueAt o h place = (OverAt o h place → ⊥) × NextAt o h place
+
+abbrev pub IsOver : Opening → History → Call → Type 0
+IsOver o h c = OverAt o h (placeOf c)
+
+abbrev pub IsDue : Opening → History → Call → Type 0
+IsDue o h c = DueAt o h (placeOf c)
 
 -- ---- what is claimed
 
 -- of a call: "10 a call that isn't the one due. 11 a closed session."
 pub record StateRefusals (o : Opening) (w : World) (c : Call) : Type 0 where
-  pub eleven-exactly : (refusal w c ≡ 11) ↔ Over o (w .history) c
-  pub ten-exactly : (refusal w c ≡ 10) ↔ ((Over o (w .history) c → ⊥) × (IsDue o (w .history) c → ⊥))
+  pub eleven-exactly : (refusal w c ≡ 11) ↔ IsOver o (w .history) c
+  pub ten-exactly : (refusal w c ≡ 10) ↔ ((IsOver o (w .history) c → ⊥) × (IsDue o (w .history) c → ⊥))
 
 -- of the carrier, whose opening was not refused
 pub record CarrierClaim (o : Opening) (w : World) : Type 0 where
@@ -160,13 +170,13 @@ pub record CarrierClaim (o : Opening) (w : World) : Type 0 where
   pub rejected-exactly : (w .carrier .phase ≡ CarrierPhases.Closed Rejected) ↔ RejectedOne (w .history)
   pub accepted-exactly : (w .carrier .phase ≡ CarrierPhases.Closed Accepted) ↔ AcceptedAll o (w .history)
   -- "The next call due is held as one of a few named phases."
-  pub phase-is : (phase : CarrierPhase) → (CarrierCalls.phaseNumber phase ≡ 0 → ⊥) → (w .carrier .phase ≡ phase) ↔ CarrierDue o (w .history) phase
-  pub state-refusals : (c : Call) → (OnCard c → ⊥) → StateRefusals o w c
+  pub phase-is : (phase : CarrierPhase) → (CarrierCalls.phaseNumber phase ≡ 0 → ⊥) → (w .carrier .phase ≡ phase) ↔ DueAt o (w .history) (on-carrier phase)
+  pub state-refusals : (c : Call) → (OnCard (placeOf c) → ⊥) → StateRefusals o w c
 
 -- of the card, whose opening was not refused
 pub record CardClaim (o : Opening) (w : World) : Type 0 where
   pub replies-given : (r : ℕ) → IsGiven (w .history .given .replies r) ↔ (r < w .history .cardRound)
   -- "After round N the card's session is closed and every number in it is zero.", and no sooner
   pub closed-exactly : (w .card ≡ CardCalls.closedCard) ↔ CardOver o (w .history)
-  pub phase-is : (phase : CardPhase) → (CardCalls.phaseNumber phase ≡ 0 → ⊥) → (w .card .phase ≡ phase) ↔ CardDue o (w .history) phase
-  pub state-refusals : (c : Call) → OnCard c → StateRefusals o w c
+  pub phase-is : (phase : CardPhase) → (CardCalls.phaseNumber phase ≡ 0 → ⊥) → (w .card .phase ≡ phase) ↔ DueAt o (w .history) (on-card phase)
+  pub state-refusals : (c : Call) → OnCard (placeOf c) → StateRefusals o w c
