@@ -4,7 +4,6 @@ use mathlib.Core.Path.{_≡_, refl, sym, ap, subst, _∙_}
 use mathlib.Core.Bool.{cond}
 use mathlib.Core.List.{List}
 use mathlib.Core.Logic.{_⊎_, inl, inr, ⊎-elim}
-use mathlib.Core.Option.{some}
 use native.Mathlib.Nat.{lt-of-not-le, eq-or-lt-of-le}
 use native.Mathlib.Decide.{decLe}
 use native.Mathlib.Omega.{arith}
@@ -13,7 +12,6 @@ use borrow.Author.Tests.{ne-eqb, lt-ltb, le-ltb}
 use Rattle.slices.specs.Slices.{zeros}
 use Rattle.field.specs.Vector.{held}
 use Rattle.system.specs.System.{nOf, mOf}
-use Rattle.exchange.specs.declared.read.Lent.{Lent}
 use Rattle.exchange.specs.Messages.{lentIn}
 use Rattle.exchange.specs.Card.{threeVectors}
 use Rattle.session_state.specs.State.{nextCount}
@@ -21,7 +19,7 @@ use Rattle.session_state.proofs.States.{count-below}
 use Rattle.card_state.specs.declared.session.CardPhase.{CardPhase}
 use Rattle.card_state.specs.declared.session.CardPhase.the-variants.{Commit, AnswerAlpha, Reply}
 use Rattle.card_state.specs.declared.session.Card.{Card}
-use Rattle.card_state.specs.Card.{phaseNumber, openedCard, closedCard, noLent, cardWith, committedCard, answeredCard, nextCard, repliedCard}
+use Rattle.card_state.specs.Card.{phaseNumber, openedCard, closedCard, noLent, cardWith, committedCard, answeredCard, heldLent, nextCard, repliedCard}
 use Rattle.session.specs.Session.{Opening, put, Given, World, cardMoves}
 use Rattle.session.specs.Histories.{IsGiven}
 use Rattle.session.proofs.Logs.{Clear, put-there, put-stays, put-clear, clear-next}
@@ -34,41 +32,48 @@ module _ (o : Opening) where
   abbrev pub openCard : Card
   openCard = openedCard (o .system) (o .scheme) (o .rounds) (o .secret)
 
-  -- the opened card in this phase and round, whatever is lent for it
-  abbrev pub CardIs : Card → CardPhase → ℕ → Type 0
-  CardIs card phase r = (lent : Lent) × (e1 : List ℕ) × (card ≡ cardWith openCard phase r lent e1)
+  -- in a round for which nothing is lent yet
+  unfoldable pub freshCard : ℕ → Card
+  freshCard r = cardWith openCard Commit r noLent (zeros 96)
 
-  committed-is : (card : Card) (r : ℕ) (b lent : List ℕ) (phase : CardPhase) → cond (eqb (o .scheme) 3) Reply AnswerAlpha ≡ phase → CardIs card Commit r →
-      CardIs (committedCard card b lent) phase r
-  unfolding committedCard cardWith openedCard
-  committed-is card r b lent phase e (l, e1, is) =
-      let next = lentIn (nOf b) (mOf b) lent in
-      let next-e1 = cond (eqb (o .scheme) 3) (threeVectors b (held (o .secret)) lent .e1) (zeros 96) in
-      (next, next-e1, ap (λ (c : Card). committedCard c b lent) is ∙ ap (λ (p : CardPhase). cardWith openCard p r next next-e1) e)
+  -- in a round for which this was lent, with this system
+  unfoldable pub heldCard : List ℕ → CardPhase → ℕ → List ℕ → Card
+  heldCard b phase r lent =
+      cardWith openCard phase r (lentIn (nOf b) (mOf b) lent) (cond (eqb (o .scheme) 3) (threeVectors b (held (o .secret)) lent .e1) (zeros 96))
 
-  answered-is : (card : Card) (r : ℕ) → CardIs card AnswerAlpha r → CardIs (answeredCard card) Reply r
-  unfolding answeredCard cardWith openedCard
-  answered-is card r (l, e1, is) = (_, _, ap answeredCard is)
+  pub card-opens : openCard ≡ freshCard 0
+  unfolding freshCard openedCard cardWith noLent
+  card-opens = refl
 
-  replied-next : (card : Card) (r : ℕ) → CardIs card Reply r → r + 1 < o .rounds → o .rounds < 256 → CardIs (repliedCard card) Commit (r + 1)
-  unfolding repliedCard nextCard cardWith openedCard
-  replied-next card r (l, e1, is) more small =
+  pub committed-is : (r : ℕ) (b lent : List ℕ) (phase : CardPhase) → cond (eqb (o .scheme) 3) Reply AnswerAlpha ≡ phase →
+      committedCard (freshCard r) b lent ≡ heldCard b phase r lent
+  unfolding committedCard freshCard heldCard cardWith openedCard
+  committed-is r b lent phase e = ap (λ (p : CardPhase). heldCard b p r lent) e
+
+  pub answered-is : (r : ℕ) (b lent : List ℕ) → answeredCard (heldCard b AnswerAlpha r lent) ≡ heldCard b Reply r lent
+  unfolding answeredCard heldLent heldCard cardWith openedCard
+  answered-is r b lent = refl
+
+  -- the card after its reply: in its next round, or closed
+  pub replied-next : (r : ℕ) (b lent : List ℕ) → r + 1 < o .rounds → o .rounds < 256 → repliedCard (heldCard b Reply r lent) ≡ freshCard (r + 1)
+  unfolding repliedCard nextCard freshCard heldCard cardWith openedCard
+  replied-next r b lent more small =
       let count : nextCount r ≡ r + 1 = count-below r (o .rounds) (omega arith) small in
-      (noLent, zeros 96, ap repliedCard is ∙ simp (count, lt-ltb (r + 1) (o .rounds) more))
+      simp (count, lt-ltb (r + 1) (o .rounds) more)
 
-  replied-last : (card : Card) (r : ℕ) → CardIs card Reply r → r < o .rounds → o .rounds ≤ r + 1 → o .rounds < 256 → repliedCard card ≡ closedCard
-  unfolding repliedCard cardWith openedCard
-  replied-last card r (l, e1, is) below last small =
+  pub replied-last : (r : ℕ) (b lent : List ℕ) → r < o .rounds → o .rounds ≤ r + 1 → o .rounds < 256 → repliedCard (heldCard b Reply r lent) ≡ closedCard
+  unfolding repliedCard heldCard cardWith openedCard
+  replied-last r b lent below last small =
       let count : nextCount r ≡ r + 1 = count-below r (o .rounds) below small in
-      ap repliedCard is ∙ simp (count, le-ltb (r + 1) (o .rounds) last)
+      simp (count, le-ltb (r + 1) (o .rounds) last)
 
   -- ---- the call that is due, and what was given
 
   pub data CardProgress (g : Given) (card : Card) (r : ℕ) : CardPhase → Type 0 where
-    commit-due : CardIs card Commit r → Clear (g .commitments) r → Clear (g .middles) r → CardProgress g card r Commit
-    alpha-due : CardIs card AnswerAlpha r → (o .scheme ≡ 3 → ⊥) → IsGiven (g .commitments r) → Clear (g .commitments) (r + 1) → Clear (g .middles) r →
+    commit-due : card ≡ freshCard r → Clear (g .commitments) r → Clear (g .middles) r → CardProgress g card r Commit
+    alpha-due : (b lent : List ℕ) → card ≡ heldCard b AnswerAlpha r lent → (o .scheme ≡ 3 → ⊥) → IsGiven (g .commitments r) → Clear (g .commitments) (r + 1) → Clear (g .middles) r →
         CardProgress g card r AnswerAlpha
-    reply-due : CardIs card Reply r → IsGiven (g .commitments r) → Clear (g .commitments) (r + 1) → (o .scheme ≡ 3) ⊎ IsGiven (g .middles r) →
+    reply-due : (b lent : List ℕ) → card ≡ heldCard b Reply r lent → IsGiven (g .commitments r) → Clear (g .commitments) (r + 1) → (o .scheme ≡ 3) ⊎ IsGiven (g .middles r) →
         Clear (g .middles) (r + 1) → CardProgress g card r Reply
 
   pub data CardGoes (g : Given) (card : Card) (r : ℕ) : Type 0 where
@@ -83,16 +88,16 @@ module _ (o : Opening) where
   -- ---- the phase
 
   pub progress-phase : {g : Given} {card : Card} {r : ℕ} {p : CardPhase} → CardProgress g card r p → card .phase ≡ p
-  unfolding cardWith
-  progress-phase (commit-due is c m) = ap (λ (card : Card). card .phase) (is .2)
-  progress-phase (alpha-due is five given c m) = ap (λ (card : Card). card .phase) (is .2)
-  progress-phase (reply-due is given c middle m) = ap (λ (card : Card). card .phase) (is .2)
+  unfolding freshCard heldCard cardWith
+  progress-phase (commit-due is c m) = ap (λ (card : Card). card .phase) is
+  progress-phase (alpha-due b lent is five given c m) = ap (λ (card : Card). card .phase) is
+  progress-phase (reply-due b lent is given c middle m) = ap (λ (card : Card). card .phase) is
 
   pub progress-open : {g : Given} {card : Card} {r : ℕ} {p : CardPhase} → CardProgress g card r p → phaseNumber p ≡ 0 → ⊥
   unfolding phaseNumber
   progress-open (commit-due is c m) none = absurd (omega arith)
-  progress-open (alpha-due is five given c m) none = absurd (omega arith)
-  progress-open (reply-due is given c middle m) none = absurd (omega arith)
+  progress-open (alpha-due b lent is five given c m) none = absurd (omega arith)
+  progress-open (reply-due b lent is given c middle m) none = absurd (omega arith)
 
   pub closed-phase : {card : Card} → card ≡ closedCard → phaseNumber (card .phase) ≡ 0
   unfolding closedCard phaseNumber
@@ -120,9 +125,10 @@ module _ (o : Opening) where
   committed g card r b lent c (commit-due is no-commitments no-middles) =
       let given : IsGiven (put (g .commitments) r c r) = (c, put-there (g .commitments) r c) in
       let no-more = put-clear (g .commitments) r c no-commitments in
+      let next = ap (λ (c : Card). committedCard c b lent) is in
       by-scheme (o .scheme)
-      (λ three. (Reply, reply-due (committed-is card r b lent Reply (rw three) is) given no-more (inl three) (clear-next _ r no-middles)))
-      (λ other. (AnswerAlpha, alpha-due (committed-is card r b lent AnswerAlpha (rw (ne-eqb (o .scheme) 3 other)) is) other given no-more no-middles))
+      (λ three. (Reply, reply-due b lent (next ∙ committed-is r b lent Reply (rw three)) given no-more (inl three) (clear-next _ r no-middles)))
+      (λ other. (AnswerAlpha, alpha-due b lent (next ∙ committed-is r b lent AnswerAlpha (rw (ne-eqb (o .scheme) 3 other))) other given no-more no-middles))
 
   pub commit-history : (w : World) (b lent c : List ℕ) → CardHistory w → phaseNumber (w .card .phase) ≡ 1 →
       CardHistory (cardMoves w (committedCard (w .card) b lent) (w .history .cardRound) (withCommitments (w .history .given) (w .history .cardRound) c))
@@ -138,8 +144,8 @@ module _ (o : Opening) where
   withMiddles g r l = record { commitments = g .commitments; middles = put (g .middles) r l; replies = g .replies }
 
   answered : (g : Given) (card : Card) (r : ℕ) (l : List ℕ) → CardProgress g card r AnswerAlpha → CardProgress (withMiddles g r l) (answeredCard card) r Reply
-  answered g card r l (alpha-due is five given no-more no-middles) =
-      reply-due (answered-is card r is) given no-more (inr (l, put-there (g .middles) r l)) (put-clear (g .middles) r l no-middles)
+  answered g card r l (alpha-due b lent is five given no-more no-middles) =
+      reply-due b lent (ap answeredCard is ∙ answered-is r b lent) given no-more (inr (l, put-there (g .middles) r l)) (put-clear (g .middles) r l no-middles)
 
   pub answer-history : (w : World) (l : List ℕ) → CardHistory w → phaseNumber (w .card .phase) ≡ 2 →
       CardHistory (cardMoves w (answeredCard (w .card)) (w .history .cardRound) (withMiddles (w .history .given) (w .history .cardRound) l))
@@ -159,10 +165,10 @@ module _ (o : Opening) where
 
   replied-goes : (g : Given) (card : Card) (r : ℕ) (l : List ℕ) → o .rounds < 256 → r < o .rounds → CardProgress g card r Reply →
       CardGoes (withReplies g r l) (repliedCard card) (r + 1)
-  replied-goes g card r l small below (reply-due is given no-more middle no-middles) =
+  replied-goes g card r l small below (reply-due b lent is given no-more middle no-middles) =
       elim (decLe (o .rounds) (r + 1)) [
-        | yes last ↦ over (omega (arith, below, last)) (replied-last card r is below last small)
-        | no more ↦ let next = lt-of-not-le more in going Commit next (commit-due (replied-next card r is next small) no-more no-middles)
+        | yes last ↦ over (omega (arith, below, last)) (ap repliedCard is ∙ replied-last r b lent below last small)
+        | no more ↦ let next = lt-of-not-le more in going Commit next (commit-due (ap repliedCard is ∙ replied-next r b lent next small) no-more no-middles)
       ]
 
   pub reply-history : (w : World) (l : List ℕ) → o .rounds < 256 → CardHistory w → phaseNumber (w .card .phase) ≡ 3 →
@@ -183,15 +189,11 @@ module _ (o : Opening) where
 
   -- ---- opened
 
-  fresh-is : CardIs openCard Commit 0
-  unfolding cardWith openedCard noLent
-  fresh-is = (noLent, zeros 96, refl)
-
   pub opened-card : (w : World) → 0 < o .rounds → w .card ≡ openCard → w .history .cardRound ≡ 0 → Clear (w .history .given .commitments) 0 →
       Clear (w .history .given .middles) 0 → Clear (w .history .given .replies) 0 → CardHistory w
   opened-card w some-rounds is start c m p =
       record {
-        goes = rw (start, is) (going Commit some-rounds (commit-due fresh-is c m));
+        goes = rw start (going Commit some-rounds (commit-due (is ∙ card-opens) c m));
         replied = λ k h. absurd (omega (arith, start));
         no-replies = rw start p;
       }

@@ -1,16 +1,15 @@
 -- The card's calls along an honest session: each leaves the two ends linked, and none is refused when it is due. Assumes nothing.
 use Prim.Native.Nat.{ℕ, zero, suc, _+_, _≤_, _<_}
 use mathlib.Core.Path.{_≡_, refl, sym, ap, subst, _∙_}
-use mathlib.Core.Bool.{true, cond}
+use mathlib.Core.Bool.{true}
 use mathlib.Core.List.{List}
 use mathlib.Core.Logic.{⊎-elim}
 use mathlib.Core.Option.{some}
 use native.Mathlib.Nat.{eq-or-lt-of-le, le-refl, lt-of-not-le}
 use native.Mathlib.Decide.{decLe}
 use native.Mathlib.Omega.{arith}
-use lib.Dec.{eqb}
 use lib.ListN.{length, take}
-use borrow.Author.Tests.{ne-eqb, lt-ltb, le-ltb}
+use borrow.Author.Tests.{ne-eqb}
 use Rattle.field.specs.Vector.{allBelow}
 use Rattle.system.specs.System.{qOf, nOf, mOf, systemRefusal}
 use Rattle.system.proofs.SystemLayout.{at-all-below, sizes-has, sizes-true, accepted}
@@ -21,51 +20,32 @@ use Rattle.protocol.specs.Rounds.{mapOf}
 use Rattle.round.specs.ThreePass.{replyThree}
 use Rattle.exchange.specs.Card.{threeVectors, threeReplied}
 use Rattle.exchange.proofs.Formed.{Lends}
-use Rattle.session_state.specs.State.{nextCount}
-use Rattle.session_state.proofs.States.{count-below}
 use Rattle.card_state.specs.declared.session.CardPhase.{CardPhase}
 use Rattle.card_state.specs.declared.session.CardPhase.the-variants.{AnswerAlpha, Reply}
 use Rattle.card_state.specs.declared.session.Card.{Card}
 use Rattle.card_state.specs.Card as CardCalls
-use Rattle.card_state.specs.Card.{phaseNumber, openedCard, closedCard, noLent, cardWith, heldLent, heldVectors, committedCard, sentCommitments, answeredCard, sentMiddle, nextCard, repliedCard, sentReply, commitRefusal, alphaRefusal, replyRefusal}
+use Rattle.card_state.specs.Card.{phaseNumber, openedCard, closedCard, cardWith, heldLent, heldVectors, committedCard, sentCommitments, answeredCard, sentMiddle, repliedCard, sentReply, commitRefusal, alphaRefusal, replyRefusal}
 use Rattle.card_state.proofs.Taken.{commit-taken, commit-due, alpha-taken, alpha-due, reply-taken, reply-due}
 use Rattle.session.specs.Session.{Opening, Given, Asked, World, cardMoves}
 use Rattle.session.proofs.Logs.{Clear, put-there, put-stays, put-clear, clear-next, stays-on}
 use Rattle.session.proofs.CarrierHistory.{by-scheme, card-moved}
-use Rattle.session.proofs.CardHistory.{openCard, withCommitments, withMiddles, withReplies, CardHistory, commit-history, answer-history, reply-history}
+use Rattle.session.proofs.CardHistory.{freshCard, heldCard, committed-is, answered-is, replied-next, replied-last, withCommitments, withMiddles, withReplies, CardHistory, commit-history, answer-history, reply-history}
 use Rattle.session.proofs.States as St
 use Rattle.session.proofs.States.{GivenStays, Link, CardState, Past, past-stays, asked-same}
 
 module _ (o : Opening) where
-  -- ---- the card's sessions
+  -- ---- what the card sends
 
-  pub card-opens : openCard o ≡ St.freshCard o 0
-  unfolding St.freshCard openedCard cardWith noLent
-  card-opens = refl
-
-  pub committed-is : (r : ℕ) (lent : List ℕ) (phase : CardPhase) → cond (eqb (o .scheme) 3) Reply AnswerAlpha ≡ phase →
-      committedCard (St.freshCard o r) (o .system) lent ≡ St.heldCard o phase r lent
-  unfolding committedCard St.freshCard St.heldCard cardWith openedCard
-  committed-is r lent phase e = ap (λ (p : CardPhase). St.heldCard o p r lent) e
-
-  pub sent-commitments-is : (r : ℕ) (lent : List ℕ) → sentCommitments (St.freshCard o r) (o .system) lent ≡ St.commitmentsOf o lent
-  unfolding sentCommitments St.commitmentsOf St.freshCard cardWith openedCard
+  pub sent-commitments-is : (r : ℕ) (lent : List ℕ) → sentCommitments (freshCard o r) (o .system) lent ≡ St.commitmentsOf o lent
+  unfolding sentCommitments St.commitmentsOf freshCard cardWith openedCard
   sent-commitments-is r lent = refl
 
-  answered-is : (r : ℕ) (lent : List ℕ) → answeredCard (St.heldCard o AnswerAlpha r lent) ≡ St.heldCard o Reply r lent
-  unfolding answeredCard heldLent St.heldCard cardWith openedCard
-  answered-is r lent = refl
-
-  pub sent-middle-is : (phase : CardPhase) (r : ℕ) (lent : List ℕ) (α : ℕ) → sentMiddle (St.heldCard o phase r lent) (o .system) α ≡ St.middleOf o lent α
-  unfolding sentMiddle St.middleOf St.heldCard cardWith openedCard
+  pub sent-middle-is : (phase : CardPhase) (r : ℕ) (lent : List ℕ) (α : ℕ) → sentMiddle (heldCard o (o .system) phase r lent) (o .system) α ≡ St.middleOf o lent α
+  unfolding sentMiddle St.middleOf heldCard cardWith openedCard
   sent-middle-is phase r lent α = refl
 
-  next-is : (r : ℕ) (lent : List ℕ) → nextCard (St.heldCard o Reply r lent) ≡ St.freshCard o (nextCount r)
-  unfolding nextCard St.heldCard St.freshCard cardWith openedCard
-  next-is r lent = refl
-
-  pub sent-reply-is : (phase : CardPhase) (r : ℕ) (lent : List ℕ) (challenge : ℕ) → sentReply (St.heldCard o phase r lent) challenge ≡ St.replyOf o lent challenge
-  unfolding sentReply St.replyOf heldLent heldVectors St.heldCard cardWith openedCard threeReplied threeVectors replyThree cardThree r1Of t1Of mapOf
+  pub sent-reply-is : (phase : CardPhase) (r : ℕ) (lent : List ℕ) (challenge : ℕ) → sentReply (heldCard o (o .system) phase r lent) challenge ≡ St.replyOf o lent challenge
+  unfolding sentReply St.replyOf heldLent heldVectors heldCard cardWith openedCard threeReplied threeVectors replyThree cardThree r1Of t1Of mapOf
   sent-reply-is phase r lent challenge = by-scheme (o .scheme) (λ three. simp three) (λ other. simp (ne-eqb (o .scheme) 3 other))
 
   -- ---- the call that is due, by the state
@@ -77,7 +57,7 @@ module _ (o : Opening) where
   due (St.is-over h e p) = 0
 
   due-is : {g : Given} {a : Asked} {card : Card} {r : ℕ} (s : CardState o g a card r) → phaseNumber (card .phase) ≡ due s
-  unfolding due phaseNumber St.freshCard St.heldCard cardWith closedCard
+  unfolding due phaseNumber freshCard heldCard cardWith closedCard
   due-is (St.is-fresh h e c m p) = ap (λ (k : Card). phaseNumber (k .phase)) e
   due-is (St.is-committed lent h other l e c cn m p) = ap (λ (k : Card). phaseNumber (k .phase)) e
   due-is (St.is-ready lent h l e c cn m mn p) = ap (λ (k : Card). phaseNumber (k .phase)) e
@@ -87,7 +67,7 @@ module _ (o : Opening) where
 
   record Fresh (g : Given) (card : Card) (r : ℕ) : Type 0 where
     pub below : r < o .rounds
-    pub is : card ≡ St.freshCard o r
+    pub is : card ≡ freshCard o r
     pub no-commitments : Clear (g .commitments) r
     pub no-middles : Clear (g .middles) r
     pub no-replies : Clear (g .replies) r
@@ -97,7 +77,7 @@ module _ (o : Opening) where
     pub below : r < o .rounds
     pub five : o .scheme ≡ 3 → ⊥
     pub lends : Lends (o .system) lent
-    pub is : card ≡ St.heldCard o AnswerAlpha r lent
+    pub is : card ≡ heldCard o (o .system) AnswerAlpha r lent
     pub commitments-given : g .commitments r ≡ some (St.commitmentsOf o lent)
     pub no-more-commitments : Clear (g .commitments) (r + 1)
     pub no-middles : Clear (g .middles) r
@@ -107,7 +87,7 @@ module _ (o : Opening) where
     pub lent : List ℕ
     pub below : r < o .rounds
     pub lends : Lends (o .system) lent
-    pub is : card ≡ St.heldCard o Reply r lent
+    pub is : card ≡ heldCard o (o .system) Reply r lent
     pub commitments-given : g .commitments r ≡ some (St.commitmentsOf o lent)
     pub no-more-commitments : Clear (g .commitments) (r + 1)
     pub middle-given : St.MiddleGiven o g a r lent
@@ -157,8 +137,8 @@ module _ (o : Opening) where
 
   -- ---- commit
 
-  lends-of : (card : Card) (r : ℕ) (lent : List ℕ) → card ≡ St.freshCard o r → allBelow (card .q) (take (card .n + card .n + card .m) lent) ≡ true → Lends (o .system) lent
-  unfolding St.freshCard cardWith openedCard
+  lends-of : (card : Card) (r : ℕ) (lent : List ℕ) → card ≡ freshCard o r → allBelow (card .q) (take (card .n + card .n + card .m) lent) ≡ true → Lends (o .system) lent
+  unfolding freshCard cardWith openedCard
   lends-of card r lent e h = rw e at h
 
   committed-state : (g : Given) (a : Asked) (card : Card) (r : ℕ) (lent : List ℕ) → Fresh g card r → Lends (o .system) lent →
@@ -169,8 +149,8 @@ module _ (o : Opening) where
       let clear = put-clear (g .commitments) r c (f .no-commitments) in
       let is = ap (λ (k : Card). committedCard k (o .system) lent) (f .is) in
       by-scheme (o .scheme)
-      (λ three. St.is-ready lent (f .below) lends (is ∙ committed-is r lent Reply (rw three)) given clear (St.no-middle three) (clear-next (g .middles) r (f .no-middles)) (f .no-replies))
-      (λ other. St.is-committed lent (f .below) other lends (is ∙ committed-is r lent AnswerAlpha (rw (ne-eqb (o .scheme) 3 other))) given clear (f .no-middles) (f .no-replies))
+      (λ three. St.is-ready lent (f .below) lends (is ∙ committed-is o r (o .system) lent Reply (rw three)) given clear (St.no-middle three) (clear-next (g .middles) r (f .no-middles)) (f .no-replies))
+      (λ other. St.is-committed lent (f .below) other lends (is ∙ committed-is o r (o .system) lent AnswerAlpha (rw (ne-eqb (o .scheme) 3 other))) given clear (f .no-middles) (f .no-replies))
 
   commitments-stay : (g : Given) (r : ℕ) (c : List ℕ) → Clear (g .commitments) r → GivenStays o g (withCommitments o g r c)
   commitments-stay g r c clear = record { commitments-stay = put-stays (g .commitments) r c clear; middles-stay = λ k x e. e; replies-stay = λ k x e. e }
@@ -193,7 +173,7 @@ module _ (o : Opening) where
   answered-state g a card r α f asked =
       let l = sentMiddle card (o .system) α in
       let given = put-there (g .middles) r l ∙ ap some (ap (λ (k : Card). sentMiddle k (o .system) α) (f .is) ∙ sent-middle-is AnswerAlpha r (f .lent) α) in
-      St.is-ready (f .lent) (f .below) (f .lends) (ap answeredCard (f .is) ∙ answered-is r (f .lent)) (f .commitments-given) (f .no-more-commitments)
+      St.is-ready (f .lent) (f .below) (f .lends) (ap answeredCard (f .is) ∙ answered-is o r (o .system) (f .lent)) (f .commitments-given) (f .no-more-commitments)
       (St.with-middle (f .five) α asked given) (put-clear (g .middles) r l (f .no-middles)) (f .no-replies)
 
   pub answer-linked : (w : World) (α out : ℕ) → Link o w → alphaRefusal (w .card) (o .system) α out ≡ 0 → w .history .asked .alphas (w .history .cardRound) ≡ some α →
@@ -209,30 +189,9 @@ module _ (o : Opening) where
 
   -- ---- reply
 
-  rounds-kept : (r : ℕ) (lent : List ℕ) → St.heldCard o Reply r lent .rounds ≡ o .rounds
-  unfolding St.heldCard cardWith openedCard
-  rounds-kept r lent = refl
-
-  scheme-kept : (phase : CardPhase) (r : ℕ) (lent : List ℕ) → St.heldCard o phase r lent .scheme ≡ o .scheme
-  unfolding St.heldCard cardWith openedCard
+  scheme-kept : (phase : CardPhase) (r : ℕ) (lent : List ℕ) → heldCard o (o .system) phase r lent .scheme ≡ o .scheme
+  unfolding heldCard cardWith openedCard
   scheme-kept phase r lent = refl
-
-  round-kept : (r : ℕ) (lent : List ℕ) → St.heldCard o Reply r lent .round ≡ r
-  unfolding St.heldCard cardWith openedCard
-  round-kept r lent = refl
-
-  -- the card after its reply: in its next round, or closed
-  pub replied-next : (r : ℕ) (lent : List ℕ) → r + 1 < o .rounds → o .rounds < 256 → repliedCard (St.heldCard o Reply r lent) ≡ St.freshCard o (r + 1)
-  unfolding repliedCard
-  replied-next r lent more small =
-      let count : nextCount r ≡ r + 1 = count-below r (o .rounds) (omega arith) small in
-      simp (round-kept r lent, rounds-kept r lent, count, lt-ltb (r + 1) (o .rounds) more) (next-is r lent ∙ ap (St.freshCard o) count)
-
-  replied-last : (r : ℕ) (lent : List ℕ) → r < o .rounds → o .rounds ≤ r + 1 → o .rounds < 256 → repliedCard (St.heldCard o Reply r lent) ≡ closedCard
-  unfolding repliedCard
-  replied-last r lent below last small =
-      let count : nextCount r ≡ r + 1 = count-below r (o .rounds) below small in
-      simp (round-kept r lent, rounds-kept r lent, count, le-ltb (r + 1) (o .rounds) last)
 
   replied-state : (g : Given) (a : Asked) (card : Card) (r challenge : ℕ) → Ready g a card r → o .rounds < 256 →
       CardState o (withReplies o g r (sentReply card challenge)) a (repliedCard card) (r + 1)
@@ -241,10 +200,10 @@ module _ (o : Opening) where
       let clear = put-clear (g .replies) r l (f .no-replies) in
       let is = ap repliedCard (f .is) in
       elim (decLe (o .rounds) (r + 1)) [
-        | yes last ↦ St.is-over (omega (arith, f .below, last)) (is ∙ replied-last r (f .lent) (f .below) last small) clear
+        | yes last ↦ St.is-over (omega (arith, f .below, last)) (is ∙ replied-last o r (o .system) (f .lent) (f .below) last small) clear
         | no more ↦
             let below = lt-of-not-le more in
-            St.is-fresh below (is ∙ replied-next r (f .lent) below small) (f .no-more-commitments) (f .no-more-middles) clear
+            St.is-fresh below (is ∙ replied-next o r (o .system) (f .lent) below small) (f .no-more-commitments) (f .no-more-middles) clear
       ]
 
   pub reply-linked : (w : World) (challenge out : ℕ) → Link o w → o .rounds < 256 → replyRefusal (w .card) challenge out ≡ 0 →
@@ -280,28 +239,28 @@ module _ (o : Opening) where
     pub commit-goes : (w : World) (lent : List ℕ) (out : ℕ) → Link o w → phaseNumber (w .card .phase) ≡ 1 →
         length lent ≡ nOf (o .system) + nOf (o .system) + mOf (o .system) + commitmentsLength (o .scheme) → out ≡ commitmentsLength (o .scheme) →
         Elements (qOf (o .system)) (take (nOf (o .system) + nOf (o .system) + mOf (o .system)) lent) → commitRefusal (w .card) (o .system) lent out ≡ 0
-    unfolding St.freshCard cardWith openedCard phaseNumber Known
+    unfolding freshCard cardWith openedCard phaseNumber Known
     commit-goes w lent out l phase long room elements =
         let f : Fresh (w .history .given) (w .card) (w .history .cardRound) = known-at _ _ _ _ (l .card-state) 1 phase in
         ap (λ (k : Card). commitRefusal k (o .system) lent out) (f .is) ∙
-        commit-due (St.freshCard o (w .history .cardRound)) (o .system) lent out
+        commit-due (freshCard o (w .history .cardRound)) (o .system) lent out
         (record { due = refl; good = good; fits = sizes-has (o .system) _ _ _ refl refl refl; lent-length = long; room = room; elements = at-all-below _ _ elements })
 
     pub answer-goes : (w : World) (α out : ℕ) → Link o w → phaseNumber (w .card .phase) ≡ 2 → out ≡ nOf (o .system) + mOf (o .system) → α < qOf (o .system) →
         alphaRefusal (w .card) (o .system) α out ≡ 0
-    unfolding St.heldCard cardWith openedCard phaseNumber Known
+    unfolding heldCard cardWith openedCard phaseNumber Known
     answer-goes w α out l phase room element =
         let f : Committed (w .history .given) (w .card) (w .history .cardRound) = known-at _ _ _ _ (l .card-state) 2 phase in
         ap (λ (k : Card). alphaRefusal k (o .system) α out) (f .is) ∙
-        alpha-due (St.heldCard o AnswerAlpha (w .history .cardRound) (f .lent)) (o .system) α out
+        alpha-due (heldCard o (o .system) AnswerAlpha (w .history .cardRound) (f .lent)) (o .system) α out
         (record { due = refl; good = good; fits = sizes-has (o .system) _ _ _ refl refl refl; room = room; element = element })
 
     pub reply-goes : (w : World) (challenge out : ℕ) → Link o w → phaseNumber (w .card .phase) ≡ 3 →
         out ≡ replyLength (o .scheme) (nOf (o .system)) (mOf (o .system)) → challenge < challenges (o .scheme) → replyRefusal (w .card) challenge out ≡ 0
-    unfolding St.heldCard cardWith openedCard phaseNumber Known
+    unfolding heldCard cardWith openedCard phaseNumber Known
     reply-goes w challenge out l phase room value =
         let f : Ready (w .history .given) (w .history .asked) (w .card) (w .history .cardRound) = known-at _ _ _ _ (l .card-state) 3 phase in
         let k = accepted (o .system) good in
         ap (λ (c : Card). replyRefusal c challenge out) (f .is) ∙
-        reply-due (St.heldCard o Reply (w .history .cardRound) (f .lent)) challenge out
+        reply-due (heldCard o (o .system) Reply (w .history .cardRound) (f .lent)) challenge out
         (record { due = refl; sizes = sizes-true (qOf (o .system)) (nOf (o .system)) (mOf (o .system)) (k .is-field) (k .n-low, k .n-high) (k .m-low, k .m-high); room = room; value = value })

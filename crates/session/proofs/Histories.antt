@@ -29,7 +29,7 @@ use Rattle.carrier_state.specs.declared.session.Carrier.{Carrier}
 use Rattle.carrier_state.specs.Carrier as CarrierCalls
 use Rattle.carrier_state.proofs.Eleven as CarrierEleven
 use Rattle.session.specs.Session.{Opening, Call, commit, answerAlpha, reply, takeCommitments, setAlpha, takeMiddle, setChallenge, takeReply, Log, Judgement, World, opened, refusal, effect, step, after}
-use Rattle.session.specs.Histories.{acceptOf, acceptCount, CardOver, RejectedOne, AcceptedAll, CarrierOver, IsGiven, Next, here, later, cardThree, cardFive, cardOrder, CardMade, carrierThree, carrierFive, carrierOrder, CarrierMade, Place, on-card, on-carrier, placeOf, OnCard, OverAt, NextAt, DueAt, IsOver, IsDue, StateRefusals, CarrierClaim, CardClaim}
+use Rattle.session.specs.Histories.{acceptOf, acceptCount, CardOver, RejectedOne, AcceptedAll, CarrierOver, IsGiven, Next, here, later, cardThree, cardFive, cardOrder, CardMade, carrierThree, carrierFive, carrierOrder, CarrierMade, on-card, on-carrier, placeOf, OnCard, OverAt, NextAt, DueAt, StateRefusals, CarrierClaim, CardClaim}
 use Rattle.session.proofs.Logs.{Clear, none-given, given-before}
 use Rattle.session.proofs.Phases.{same-card-phase, same-carrier-phase, not-both, next-unique}
 use Rattle.session.proofs.CarrierHistory as Ca
@@ -254,11 +254,11 @@ module _ (o : Opening) (w : World) where
       Next (CardMade (w .history)) (cardOrder (o .scheme)) p
   unfolding CardMade
   card-next unreplied p (Cd.commit-due is c m) = card-order p (λ three. here _ _ (not-given _ _ c)) (λ other. here _ _ (not-given _ _ c))
-  card-next unreplied p (Cd.alpha-due is five given c m) =
+  card-next unreplied p (Cd.alpha-due b lent is five given c m) =
       card-order p (λ three. absurd (five three)) (λ other. later _ _ _ given (here _ _ (not-given _ _ m)))
-  card-next unreplied p (Cd.reply-due is given c (inl three) m) =
+  card-next unreplied p (Cd.reply-due b lent is given c (inl three) m) =
       card-order p (λ same. later _ _ _ given (here _ _ (not-given _ _ unreplied))) (λ other. absurd (other three))
-  card-next unreplied p (Cd.reply-due is given c (inr middle) m) =
+  card-next unreplied p (Cd.reply-due b lent is given c (inr middle) m) =
       card-order p (λ three. later _ _ _ given (here _ _ (not-given _ _ unreplied)))
       (λ other. later _ _ _ given (later _ _ _ middle (here _ _ (not-given _ _ unreplied))))
 

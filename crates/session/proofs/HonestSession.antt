@@ -23,11 +23,11 @@ use Rattle.session.proofs.Logs.{none-given}
 use Rattle.session.proofs.CarrierHistory as Ca
 use Rattle.session.proofs.CarrierHistory.{CarrierState}
 use Rattle.session.proofs.CardHistory as Cd
-use Rattle.session.proofs.CardHistory.{CardGoes}
+use Rattle.session.proofs.CardHistory.{card-opens, CardGoes}
 use Rattle.session.proofs.Histories.{card-started, carrier-started, card-number, carrier-number, stepped}
 use Rattle.session.proofs.States as St
 use Rattle.session.proofs.States.{Link}
-use Rattle.session.proofs.CardSide.{card-opens, commit-linked, answer-linked, reply-linked, commit-goes, answer-goes, reply-goes}
+use Rattle.session.proofs.CardSide.{commit-linked, answer-linked, reply-linked, commit-goes, answer-goes, reply-goes}
 use Rattle.session.proofs.CarrierSide as C
 use Rattle.session.proofs.Verdicts as Verdicts
 use Rattle.session.proofs.Verdicts.{Opens, of-carrier}

@@ -35,7 +35,8 @@ use Rattle.session.specs.Played.{Openable, Draw, Fits, zeroDraw, AllFit,
 use Rattle.session.proofs.States as St
 use Rattle.session.proofs.States.{Link}
 use Rattle.session.proofs.Logs.{put-there}
-use Rattle.session.proofs.CardSide.{card-opens, committed-is, sent-commitments-is, sent-middle-is, sent-reply-is, replied-next}
+use Rattle.session.proofs.CardSide.{sent-commitments-is, sent-middle-is, sent-reply-is}
+use Rattle.session.proofs.CardHistory.{freshCard, heldCard, card-opens, committed-is, replied-next}
 use Rattle.session.proofs.CarrierHistory.{by-scheme, carrierAt, carrier-opens, took-commitments, judged-next}
 use Rattle.session.proofs.Verdicts.{Opens, reply-accepted}
 use Rattle.session.proofs.Openings.{card-opens-for, carrier-opens-for, all-zeros-fit}
@@ -95,7 +96,7 @@ module _ (o : Opening) (k : Opens o) where
     pub linked : Link o w
     pub card-round : w .history .cardRound ≡ r
     pub carrier-round : w .history .carrierRound ≡ r
-    pub card-fresh : r < o .rounds → w .card ≡ St.freshCard o r
+    pub card-fresh : r < o .rounds → w .card ≡ freshCard o r
     pub carrier-fresh : r < o .rounds → w .carrier ≡ freshCarrier r
 
   -- both ends in round r: the commitments are given, and not taken yet
@@ -103,7 +104,7 @@ module _ (o : Opening) (k : Opens o) where
     pub linked : Link o w
     pub card-round : w .history .cardRound ≡ r
     pub carrier-round : w .history .carrierRound ≡ r
-    pub card-is : w .card ≡ St.heldCard o cardNext r (d .lent)
+    pub card-is : w .card ≡ heldCard o (o .system) cardNext r (d .lent)
     pub carrier-is : w .carrier ≡ freshCarrier r
     pub given : w .history .given .commitments r ≡ some (sentCommitments (fresh o) (o .system) (d .lent))
 
@@ -112,7 +113,7 @@ module _ (o : Opening) (k : Opens o) where
     pub linked : Link o w
     pub card-round : w .history .cardRound ≡ r + 1
     pub carrier-round : w .history .carrierRound ≡ r
-    pub card-fresh : r + 1 < o .rounds → w .card ≡ St.freshCard o (r + 1)
+    pub card-fresh : r + 1 < o .rounds → w .card ≡ freshCard o (r + 1)
     pub commitments : List ℕ
     pub middle : List ℕ
     pub carrier-is : w .carrier ≡ carrierAt o TakeReply r commitments middle (d .challenge)
@@ -127,8 +128,8 @@ module _ (o : Opening) (k : Opens o) where
     commitments-are : sentCommitments (fresh o) (o .system) (d .lent) ≡ St.commitmentsOf o (d .lent)
     commitments-are = ap (λ (c : Card). sentCommitments c (o .system) (d .lent)) (card-opens o) ∙ sent-commitments-is o 0 (d .lent)
 
-    lending-is : lending o d ≡ St.heldCard o cardNext 0 (d .lent)
-    lending-is = ap (λ (c : Card). committedCard c (o .system) (d .lent)) (card-opens o) ∙ committed-is o 0 (d .lent) _ refl
+    lending-is : lending o d ≡ heldCard o (o .system) cardNext 0 (d .lent)
+    lending-is = ap (λ (c : Card). committedCard c (o .system) (d .lent)) (card-opens o) ∙ committed-is o 0 (o .system) (d .lent) _ refl
 
     middle-is : sentMiddle (lending o d) (o .system) (d .α) ≡ St.middleOf o (d .lent) (d .α)
     middle-is = ap (λ (c : Card). sentMiddle c (o .system) (d .α)) lending-is ∙ sent-middle-is o _ 0 (d .lent) (d .α)
@@ -180,9 +181,9 @@ module _ (o : Opening) (k : Opens o) where
     module _ (cs : List Call) (r : ℕ) (rest : (later : World) → Replied d later r → Plays o later cs) where
       -- challenge and reply
       ending : (g : Given) (a : Asked) (t : Taken) (j : Log Judgement) (c m : List ℕ) →
-          Link o (both (St.heldCard o Reply r (d .lent)) (carrierAt o SetChallenge r c m 0) r g a t j) →
-          Plays o (both (St.heldCard o Reply r (d .lent)) (carrierAt o SetChallenge r c m 0) r g a t j) (asking o d ∷ replying o d ∷ cs)
-      unfolding AtPhase Fitting Unaltered effect St.heldCard cardWith CardCalls.phaseNumber carrierAt carrierWith openedCarrier withChallenge CarrierCalls.phaseNumber
+          Link o (both (heldCard o (o .system) Reply r (d .lent)) (carrierAt o SetChallenge r c m 0) r g a t j) →
+          Plays o (both (heldCard o (o .system) Reply r (d .lent)) (carrierAt o SetChallenge r c m 0) r g a t j) (asking o d ∷ replying o d ∷ cs)
+      unfolding AtPhase Fitting Unaltered effect heldCard cardWith CardCalls.phaseNumber carrierAt carrierWith openedCarrier withChallenge CarrierCalls.phaseNumber
       ending g a t j c m l =
           goes _ _ _ l refl (fits .challenge-value) tt
           (λ n1 l1. goes _ _ _ l1 refl (refl, fits .challenge-value) (put-there _ r _)
@@ -192,7 +193,7 @@ module _ (o : Opening) (k : Opens o) where
             linked = l2;
             card-round = refl;
             carrier-round = refl;
-            card-fresh = λ more. replied-next o r (d .lent) more (k .few);
+            card-fresh = λ more. replied-next o r (o .system) (d .lent) more (k .few);
             commitments = c;
             middle = m;
             carrier-is = refl;
@@ -201,10 +202,10 @@ module _ (o : Opening) (k : Opens o) where
 
       -- α, t1 and e1
       middle : (g : Given) (a : Asked) (t : Taken) (j : Log Judgement) (c m : List ℕ) → (o .scheme ≡ 3 → ⊥) →
-          Link o (both (St.heldCard o AnswerAlpha r (d .lent)) (carrierAt o SetAlpha r c m 0) r g a t j) →
-          Plays o (both (St.heldCard o AnswerAlpha r (d .lent)) (carrierAt o SetAlpha r c m 0) r g a t j)
+          Link o (both (heldCard o (o .system) AnswerAlpha r (d .lent)) (carrierAt o SetAlpha r c m 0) r g a t j) →
+          Plays o (both (heldCard o (o .system) AnswerAlpha r (d .lent)) (carrierAt o SetAlpha r c m 0) r g a t j)
           (setting o d ∷ answering o d ∷ taking-middle o d ∷ asking o d ∷ replying o d ∷ cs)
-      unfolding AtPhase Fitting Unaltered effect St.heldCard cardWith openedCard answeredCard heldLent CardCalls.phaseNumber carrierAt carrierWith openedCarrier withAlpha withMiddle CarrierCalls.phaseNumber
+      unfolding AtPhase Fitting Unaltered effect heldCard cardWith openedCard answeredCard heldLent CardCalls.phaseNumber carrierAt carrierWith openedCarrier withAlpha withMiddle CarrierCalls.phaseNumber
       middle g a t j c m other l =
           let element = fits .alpha-element other in
           goes _ _ _ l refl element tt
@@ -215,10 +216,10 @@ module _ (o : Opening) (k : Opens o) where
       -- the commitments are taken
       begun : (g : Given) (a : Asked) (t : Taken) (j : Log Judgement) (card-due : CardPhase) (carrier-due : CarrierPhase) (later : List Call) →
           carrierNext ≡ carrier-due → g .commitments r ≡ some (sentCommitments (fresh o) (o .system) (d .lent)) →
-          Link o (both (St.heldCard o card-due r (d .lent)) (freshCarrier r) r g a t j) →
-          ((t′ : Taken) (c : List ℕ) → Link o (both (St.heldCard o card-due r (d .lent)) (carrierAt o carrier-due r c (zeros 193) 0) r g a t′ j) →
-          Plays o (both (St.heldCard o card-due r (d .lent)) (carrierAt o carrier-due r c (zeros 193) 0) r g a t′ j) later) →
-          Plays o (both (St.heldCard o card-due r (d .lent)) (freshCarrier r) r g a t j) (taking o d ∷ later)
+          Link o (both (heldCard o (o .system) card-due r (d .lent)) (freshCarrier r) r g a t j) →
+          ((t′ : Taken) (c : List ℕ) → Link o (both (heldCard o (o .system) card-due r (d .lent)) (carrierAt o carrier-due r c (zeros 193) 0) r g a t′ j) →
+          Plays o (both (heldCard o (o .system) card-due r (d .lent)) (carrierAt o carrier-due r c (zeros 193) 0) r g a t′ j) later) →
+          Plays o (both (heldCard o (o .system) card-due r (d .lent)) (freshCarrier r) r g a t j) (taking o d ∷ later)
       unfolding AtPhase Fitting Unaltered effect carrierAt carrierWith openedCarrier CarrierCalls.phaseNumber
       begun g a t j card-due carrier-due later e given l next =
           goes _ _ _ l refl commitments-long given
@@ -227,12 +228,12 @@ module _ (o : Opening) (k : Opens o) where
       -- the ends as they are behind the commit, in this scheme's phase
       starting : (w : World) (calls : List Call) (card-due : CardPhase) → cardNext ≡ card-due → Committed d w r →
           let h = w .history in
-          let start = both (St.heldCard o card-due r (d .lent)) (freshCarrier r) r (h .given) (h .asked) (h .taken) (h .judged) in
+          let start = both (heldCard o (o .system) card-due r (d .lent)) (freshCarrier r) r (h .given) (h .asked) (h .taken) (h .judged) in
           (Link o start → Plays o start calls) → Plays o w calls
       starting w calls card-due e s =
           with-ends calls w _
           (in-round w r (s .card-round) (s .carrier-round) ∙
-          same-ends r _ _ _ _ (s .card-is ∙ ap (λ (p : CardPhase). St.heldCard o p r (d .lent)) e) (s .carrier-is)) (s .linked)
+          same-ends r _ _ _ _ (s .card-is ∙ ap (λ (p : CardPhase). heldCard o (o .system) p r (d .lent)) e) (s .carrier-is)) (s .linked)
 
       exchanged : (w : World) → Committed d w r → Plays o w (exchanging o d ++ cs)
       exchanged w s =
@@ -259,16 +260,16 @@ module _ (o : Opening) (k : Opens o) where
 
     -- ---- the card commits
 
-    committed : (w : World) (r : ℕ) (cs : List Call) → Link o w → w .history .cardRound ≡ r → w .card ≡ St.freshCard o r →
-        (Link o (effect w (committing o d)) → effect w (committing o d) .card ≡ St.heldCard o cardNext r (d .lent) →
+    committed : (w : World) (r : ℕ) (cs : List Call) → Link o w → w .history .cardRound ≡ r → w .card ≡ freshCard o r →
+        (Link o (effect w (committing o d)) → effect w (committing o d) .card ≡ heldCard o (o .system) cardNext r (d .lent) →
         effect w (committing o d) .history .given .commitments r ≡ some (sentCommitments (fresh o) (o .system) (d .lent)) →
         Plays o (effect w (committing o d)) cs) →
         Plays o w (committing o d ∷ cs)
-    unfolding AtPhase Fitting Unaltered effect St.freshCard cardWith CardCalls.phaseNumber
+    unfolding AtPhase Fitting Unaltered effect freshCard cardWith CardCalls.phaseNumber
     committed w r cs l at is rest =
         goes w (committing o d) cs l (ap (λ (c : Card). CardCalls.phaseNumber (c .phase)) is) (refl, fits .lent-length, refl, fits .lent-elements) refl
         (λ none next.
-        rest next (ap (λ (c : Card). committedCard c (o .system) (d .lent)) is ∙ committed-is o r (d .lent) _ refl)
+        rest next (ap (λ (c : Card). committedCard c (o .system) (d .lent)) is ∙ committed-is o r (o .system) (d .lent) _ refl)
         (rw at (put-there _ r _) ∙ ap some (ap (λ (c : Card). sentCommitments c (o .system) (d .lent)) is ∙ sent-commitments-is o r (d .lent) ∙ sym commitments-are)))
 
   -- ---- one round behind the other

@@ -6,20 +6,18 @@ use mathlib.Core.List.{List}
 use mathlib.Core.Option.{some}
 use lib.Dec.{eqb}
 use Rattle.field.specs.Vector as Vector
-use Rattle.slices.specs.Slices.{zeros}
 use Rattle.system.specs.System.{nOf, mOf}
 use Rattle.scheme.specs.Scheme.{challenges}
-use Rattle.exchange.specs.Messages.{lentIn, threeCommitments, fiveCommitments, middleBytes, replyThreeBytes, replyFiveBytes}
-use Rattle.exchange.specs.Card.{threeVectors, threeCommitted, threeReplied, fiveCommitted}
+use Rattle.exchange.specs.Messages.{threeCommitments, fiveCommitments, middleBytes, replyThreeBytes, replyFiveBytes}
+use Rattle.exchange.specs.Card.{threeCommitted, threeReplied, fiveCommitted}
 use Rattle.exchange.proofs.Formed.{Lends}
 use Rattle.honest.proofs.Honest.{fiveMiddle, fiveReplied}
-use Rattle.card_state.specs.declared.session.CardPhase.{CardPhase}
-use Rattle.card_state.specs.declared.session.CardPhase.the-variants.{Commit, AnswerAlpha, Reply}
+use Rattle.card_state.specs.declared.session.CardPhase.the-variants.{AnswerAlpha, Reply}
 use Rattle.card_state.specs.declared.session.Card.{Card}
 use Rattle.card_state.specs.Card as CardCalls
 use Rattle.session.specs.Session.{Opening, Given, Asked, Taken, World}
 use Rattle.session.proofs.Logs.{Clear, Stays}
-use Rattle.session.proofs.CardHistory.{openCard, CardHistory}
+use Rattle.session.proofs.CardHistory.{freshCard, heldCard, CardHistory}
 use Rattle.session.proofs.CarrierHistory.{AllAccepted, CarrierHistory}
 
 module _ (o : Opening) where
@@ -42,24 +40,16 @@ module _ (o : Opening) where
 
   -- ---- the card
 
-  unfoldable pub freshCard : ℕ → Card
-  freshCard r = CardCalls.cardWith (openCard o) Commit r CardCalls.noLent (zeros 96)
-
-  unfoldable pub heldCard : CardPhase → ℕ → List ℕ → Card
-  heldCard phase r lent =
-      CardCalls.cardWith (openCard o) phase r (lentIn (nOf (o .system)) (mOf (o .system)) lent)
-      (cond (eqb (o .scheme) 3) (threeVectors (o .system) secretOf lent .e1) (zeros 96))
-
   -- what the card gave between commitments and challenge: nothing, or t1 and e1 for the α that was set
   pub data MiddleGiven (g : Given) (a : Asked) (r : ℕ) (lent : List ℕ) : Type 0 where
     no-middle : o .scheme ≡ 3 → MiddleGiven g a r lent
     with-middle : (o .scheme ≡ 3 → ⊥) → (α : ℕ) → a .alphas r ≡ some α → g .middles r ≡ some (middleOf lent α) → MiddleGiven g a r lent
 
   pub data CardState (g : Given) (a : Asked) (card : Card) (r : ℕ) : Type 0 where
-    is-fresh : r < o .rounds → card ≡ freshCard r → Clear (g .commitments) r → Clear (g .middles) r → Clear (g .replies) r → CardState g a card r
-    is-committed : (lent : List ℕ) → r < o .rounds → (o .scheme ≡ 3 → ⊥) → Lends (o .system) lent → card ≡ heldCard AnswerAlpha r lent →
+    is-fresh : r < o .rounds → card ≡ freshCard o r → Clear (g .commitments) r → Clear (g .middles) r → Clear (g .replies) r → CardState g a card r
+    is-committed : (lent : List ℕ) → r < o .rounds → (o .scheme ≡ 3 → ⊥) → Lends (o .system) lent → card ≡ heldCard o (o .system) AnswerAlpha r lent →
         g .commitments r ≡ some (commitmentsOf lent) → Clear (g .commitments) (r + 1) → Clear (g .middles) r → Clear (g .replies) r → CardState g a card r
-    is-ready : (lent : List ℕ) → r < o .rounds → Lends (o .system) lent → card ≡ heldCard Reply r lent →
+    is-ready : (lent : List ℕ) → r < o .rounds → Lends (o .system) lent → card ≡ heldCard o (o .system) Reply r lent →
         g .commitments r ≡ some (commitmentsOf lent) → Clear (g .commitments) (r + 1) → MiddleGiven g a r lent → Clear (g .middles) (r + 1) →
         Clear (g .replies) r → CardState g a card r
     is-over : r ≡ o .rounds → card ≡ CardCalls.closedCard → Clear (g .replies) r → CardState g a card r
