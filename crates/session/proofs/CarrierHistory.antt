@@ -230,7 +230,9 @@ module _ (o : Opening) where
         commitments-taken = s .commitments-stay k _ (x .commitments-taken);
         middle-taken = middle-within _ _ _ _ k _ (s .alphas-stay) (s .middles-stay) (x .middle-taken);
         challenge-set = s .challenges-stay k _ (x .challenge-set);
+        answer = x .answer;
         reply-judged = s .judged-stay k _ (x .reply-judged);
+        by-check = x .by-check;
       }
 
   -- the rounds that are over stay judged, whatever is taken and set in this one
@@ -569,7 +571,9 @@ module _ (o : Opening) where
           commitments-taken = seen .commitments-taken;
           middle-taken = seen .middle-taken;
           challenge-set = seen .challenge-set;
-          reply-judged = put-there j r y ∙ ap (λ (answer : Bool). some (record { system = b; reply = reply; answer = answer })) (seen .verdict);
+          answer = y .answer;
+          reply-judged = put-there j r y;
+          by-check = seen .verdict;
         } in
         record {
           state = after-reply _ _ j (w .carrier) r y f (y .answer) refl;

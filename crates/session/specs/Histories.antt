@@ -2,7 +2,7 @@
 -- is closed, and which call is due. All of it is said by what has happened (`History`) and never by the sessions.
 use Prim.Native.Nat.{ℕ, zero, suc, _+_, _<_}
 use mathlib.Core.Path.{_≡_}
-use mathlib.Core.Bool.{false, cond}
+use mathlib.Core.Bool.{Bool, false, cond}
 use mathlib.Core.List.{List, [], _∷_}
 use mathlib.Core.Logic.{_⊎_, _↔_}
 use mathlib.Core.Option.{Option, some, none}
@@ -18,7 +18,8 @@ use Rattle.carrier_state.specs.declared.session.CarrierPhase.{CarrierPhase}
 use Rattle.carrier_state.specs.declared.session.CarrierPhase.the-variants.{TakeCommitments, SetAlpha, TakeMiddle, SetChallenge, TakeReply}
 use Rattle.carrier_state.specs.declared.session.CarrierPhase.the-variants as CarrierPhases
 use Rattle.carrier_state.specs.Carrier as CarrierCalls
-use Rattle.session.specs.Session.{Opening, Call, commit, answerAlpha, reply, takeCommitments, setAlpha, takeMiddle, setChallenge, takeReply, Log, Judgement, History, World, refusal}
+use Rattle.session.specs.Session.{Opening, Call, commit, answerAlpha, reply, takeCommitments, setAlpha, takeMiddle, setChallenge, takeReply, Log}
+use Rattle.session.specs.Session.{Judgement, History, World, refusal}
 
 -- ---- the check of what was taken
 
@@ -35,10 +36,12 @@ pub record JudgedByCheck (o : Opening) (h : History) (r : ℕ) : Type 0 where
   pub challenge : ℕ
   pub system : List ℕ
   pub reply : List ℕ
+  pub answer : Bool
   pub commitments-taken : h .taken .commitments r ≡ some commitments
   pub middle-taken : Middle o (h .asked .alphas) (h .taken .middles) r middle
   pub challenge-set : h .asked .challenges r ≡ some challenge
-  pub reply-judged : h .judged r ≡ some (record { system = system; reply = reply; answer = accepts system (o .scheme) (held (o .key)) commitments middle challenge reply })
+  pub reply-judged : h .judged r ≡ some (record { system = system; reply = reply; answer = answer })
+  pub by-check : answer ≡ accepts system (o .scheme) (held (o .key)) commitments middle challenge reply
 
 -- ---- the count
 

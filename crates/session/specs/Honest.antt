@@ -13,7 +13,8 @@ use Rattle.exchange.specs.Messages.{accepts}
 use Rattle.session_state.specs.declared.Verdict.the-variants.{Accepted}
 use Rattle.card_state.specs.Card as CardCalls
 use Rattle.carrier_state.specs.Carrier as CarrierCalls
-use Rattle.session.specs.Session.{Opening, Call, commit, answerAlpha, reply, takeCommitments, setAlpha, takeMiddle, setChallenge, takeReply, History, World, refusal, step}
+use Rattle.session.specs.Session.{Opening, Call, commit, answerAlpha, reply, takeCommitments, setAlpha, takeMiddle, setChallenge, takeReply, History}
+use Rattle.session.specs.Session.{World, refusal, step}
 use Rattle.session.specs.Histories.{Middle, IsDue}
 
 -- ---- the honest session

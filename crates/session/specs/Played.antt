@@ -15,7 +15,8 @@ use Rattle.scheme.specs.Scheme.{challenges, commitmentsLength, replyLength}
 use Rattle.record_form.specs.Record.{Elements}
 use Rattle.card_state.specs.declared.session.Card.{Card}
 use Rattle.card_state.specs.Card.{openedCard, committedCard, sentCommitments, sentMiddle, sentReply}
-use Rattle.session.specs.Session.{Opening, Call, commit, answerAlpha, reply, takeCommitments, setAlpha, takeMiddle, setChallenge, takeReply, World, refusal, step}
+use Rattle.session.specs.Session.{Opening, Call, commit, answerAlpha, reply, takeCommitments, setAlpha, takeMiddle, setChallenge, takeReply, World}
+use Rattle.session.specs.Session.{refusal, step}
 use Rattle.session.specs.Honest.{Unaltered}
 
 -- "An opening to which no numbered refusal applies isn't refused.": the carrier's, with none of the system's and no 1, 2 or 3; v need be no F(s)
