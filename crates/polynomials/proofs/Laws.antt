@@ -81,6 +81,10 @@ module _ (b : List ℕ) (small : nOf b ≤ 96) where
       (polar-cong (opsOf b) (ring (qOf b)) (nOf b) (quadratic b l) _ _ _ _ (λ i s. vector-at (nOf b) _ i s (omega arith)) (λ i s. refl) ∙
       polar-mul (opsOf b) (ring (qOf b)) (nOf b) (quadratic b l) c (λ i. x ! i) (λ i. y ! i)))
 
+  -- G(x,αy) = αG(x,y)
+  pub G-mul-right : (c : ℕ) (x y : List ℕ) → G b x (mulV (opsOf b) (nOf b) c y) ≡ mulV (opsOf b) (mOf b) c (G b x y)
+  G-mul-right c x y = G-comm x _ ∙ G-mul c y x ∙ ap (mulV (opsOf b) (mOf b) c) (G-comm y x)
+
   -- F and G look at no more of their arguments than n elements
   pub F-held : (x : List ℕ) → F b (vector (nOf b) (λ i. x ! i)) ≡ F b x
   unfolding F
