@@ -1,4 +1,4 @@
--- Laws of sums over pairs, of a polynomial and of its polar form, over any field. Assumes nothing.
+-- Laws of sums over pairs, of a polynomial and of its polar form, over any ring. Assumes nothing.
 use Prim.Native.Nat.{ℕ, _+_, _-_, _<_}
 use mathlib.Core.Path.{_≡_, ap, ap₂, fun-ext, _∙_}
 use native.Mathlib.Omega.{arith}
