@@ -1,14 +1,15 @@
 -- `evaluate` and `polar` refuse exactly the arguments that are not as document 01 asks. Assumes nothing.
 use Prim.Native.Nat.{ℕ}
-use mathlib.Core.Path.{_≡_, sym, _∙_}
+use mathlib.Core.Path.{_≡_, refl, sym, _∙_}
 use mathlib.Core.Bool.{true}
-use mathlib.Core.List.{List}
+use mathlib.Core.List.{List, [], _∷_}
 use lib.Dec.{eqb}
 use borrow.Author.Tests.{eq-eqb}
-use Rattle.refusal.specs.Refusal.{unless}
+use Rattle.refusal.specs.Refusal.{unless, _orElse_}
 use Rattle.refusal.proofs.Refusals.{first-zero, later-zero, test-holds, both-zero, unless-holds}
+use Rattle.field.specs.Ops.{isField}
 use Rattle.field.specs.Vector.{Elements, allBelow}
-use Rattle.system.specs.System.{qOf, WellFormedSystem}
+use Rattle.system.specs.System.{qOf, width, systemLength, isSize, areSizes, systemRefusal, WellFormedSystem}
 use Rattle.system.proofs.SystemLayout.{all-below-at, at-all-below, well-formed, not-refused, q-is, n-is, m-is}
 use Rattle.evaluation.specs.Arguments.{Evaluable, Polarisable}
 use Rattle.evaluation.specs.Entry.{evaluateRefusal, polarRefusal}
@@ -73,3 +74,13 @@ polarisable b x y out none =
       y-elements = are-elements b w y (test-holds (allBelow (qOf b) y) 3 tt (later-zero _ _ elements));
       out-length = polar-out b x y out none ∙ m-is b w;
     }
+
+-- ---- there are right calls: K12, "q = 251, f = (1,0): F(250)", and K11, "q = 2, f = (1,0): G(1,1)"
+
+pub evaluable-K12 : Evaluable (251 ∷ 1 ∷ 1 ∷ 1 ∷ 0 ∷ []) (250 ∷ []) 1
+unfolding evaluateRefusal systemRefusal areSizes isSize systemLength width isField allBelow unless _orElse_
+evaluable-K12 = evaluable _ _ _ refl
+
+pub polarisable-K11 : Polarisable (2 ∷ 1 ∷ 1 ∷ 1 ∷ 0 ∷ []) (1 ∷ []) (1 ∷ []) 1
+unfolding polarRefusal systemRefusal areSizes isSize systemLength width isField allBelow unless _orElse_
+polarisable-K11 = polarisable _ _ _ _ refl

@@ -1,16 +1,18 @@
 -- The simulator refuses exactly the arguments that are not as document 01 asks. Assumes nothing.
 use Prim.Native.Nat.{ℕ, _+_, _≤_, _<_}
-use mathlib.Core.Path.{_≡_, sym, ap, _∙_}
+use mathlib.Core.Path.{_≡_, refl, sym, ap, _∙_}
 use mathlib.Core.Bool.{true, not}
-use mathlib.Core.List.{List, _++_}
+use mathlib.Core.List.{List, [], _∷_, _++_}
 use native.Mathlib.Omega.{arith}
-use lib.ListN.{length, take, drop, length-append, length-take, length-drop}
+use lib.ListN.{length, take, drop, replicate, length-append, length-take, length-drop}
 use lib.Seq.{getD-take, getD-drop, take-add, take-all, take-at, take-append-le}
 use borrow.Author.Tests.{le-leb, eq-eqb, ne-eqb}
 use Rattle.slices.specs.Slices.{_!_}
+use Rattle.refusal.specs.Refusal.{unless, _orElse_}
 use Rattle.refusal.proofs.Refusals.{first-zero, later-zero, equal-holds, both-zero, unless-holds}
+use Rattle.field.specs.Ops.{isField}
 use Rattle.field.specs.Vector.{allBelow}
-use Rattle.system.specs.System.{qOf, nOf, mOf}
+use Rattle.system.specs.System.{qOf, nOf, mOf, width, systemLength, isSize, areSizes, systemRefusal}
 use Rattle.system.proofs.SystemLayout.{all-below-at, at-all-below, well-formed, not-refused, q-is, n-is, m-is}
 use Rattle.exchange.proofs.ReadBack.{below-append}
 use Rattle.simulator.specs.Arguments.{VectorBytes, LentPieces, Simulable}
@@ -124,3 +126,9 @@ module _ (b v : List ℕ) (guess challenge : ℕ) (lent : List ℕ) (commitments
         challenge-value = k .challenge-value;
         other = k .other;
       }
+
+-- ---- there are right calls: K9, "simulator, Ch* = 0, s' = (1,0)", with Ch = 1 and each ρ zero
+
+pub simulable-K9 : Simulable (7 ∷ 2 ∷ 2 ∷ 1 ∷ 2 ∷ 3 ∷ 1 ∷ 0 ∷ 0 ∷ 1 ∷ 5 ∷ 0 ∷ 4 ∷ []) (5 ∷ 6 ∷ []) 0 1 (1 ∷ 0 ∷ 5 ∷ 1 ∷ 4 ∷ 2 ∷ 2 ∷ 5 ∷ replicate 96 0) 96 70
+unfolding simulateRefusal systemRefusal areSizes isSize systemLength width isField allBelow unless _orElse_
+simulable-K9 = simulable _ _ _ _ _ _ _ refl
