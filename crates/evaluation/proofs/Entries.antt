@@ -38,11 +38,11 @@ module _ (b x y : List ℕ) (out : ℕ) (h : polarRefusal b x y out ≡ 0) where
   unfolding polarRefusal
   polar-system = first-zero _ _ h
 
-  polar-x : length x ≡ nOf b
+  pub polar-x : length x ≡ nOf b
   unfolding polarRefusal
   polar-x = equal-holds (length x) (nOf b) 2 tt (first-zero _ _ (first-zero _ _ (later-zero _ _ h)))
 
-  polar-y : length y ≡ nOf b
+  pub polar-y : length y ≡ nOf b
   unfolding polarRefusal
   polar-y = equal-holds (length y) (nOf b) 2 tt (first-zero _ _ (later-zero _ _ (first-zero _ _ (later-zero _ _ h))))
 

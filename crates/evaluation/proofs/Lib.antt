@@ -1,2 +1,3 @@
--- What the entries write where nothing is refused.
+-- What is not refused, and what the entries then write.
+pub mod Arguments
 pub mod Entries

@@ -1,2 +1,3 @@
--- What the contracts of this crate cite.
+-- What the contracts of this crate cite, and what document 01 asks of a call's arguments.
+pub mod Arguments
 pub mod Entry

@@ -13,7 +13,7 @@ use Rattle.slices.proofs.Booleans.{either}
 use Rattle.slices.specs.Slices.{_!_}
 use Rattle.field.specs.Vector.{held, slotV, IsVector, allBelow}
 use Rattle.field.proofs.Modulus.{size-of}
-use Rattle.field.proofs.Fields.{field}
+use Rattle.field.proofs.Fields.{ring}
 use Rattle.sha256.proofs.DigestBytes.{length-sha256}
 use Rattle.commitment.specs.Commitment.{Com}
 use Rattle.system.specs.System.{qOf, nOf, mOf, opsOf, systemRefusal}
@@ -55,14 +55,14 @@ module _ (b : List ℕ) (good : systemRefusal b ≡ 0) where
 
   -- a list of n elements, held as a vector
   pub held-is : (n : ℕ) (l : List ℕ) → length l ≡ n → allBelow (qOf b) l ≡ true → IsVector (opsOf b) n (held l)
-  held-is n l long below = rw long (is-vector (opsOf b) (field (qOf b)) n _ (λ i h. rw size-is (all-below-at (qOf b) l below i (rw long h))))
+  held-is n l long below = rw long (is-vector (opsOf b) (ring (qOf b)) n _ (λ i h. rw size-is (all-below-at (qOf b) l below i (rw long h))))
 
   -- n places among the first k, which are elements
   pub slot-is : (n place k : ℕ) (l : List ℕ) → place + n ≤ k → allBelow (qOf b) (take k l) ≡ true → IsVector (opsOf b) n (slotV n place l)
   unfolding slotV
   slot-is n place k l room below =
-      is-vector (opsOf b) (field (qOf b)) n _ (λ i h.
-      front-below (opsOf b .size) k l (field (qOf b) .zero-below) (rw size-is below) (place + i) (omega arith))
+      is-vector (opsOf b) (ring (qOf b)) n _ (λ i h.
+      front-below (opsOf b .size) k l (ring (qOf b) .zero-below) (rw size-is below) (place + i) (omega arith))
 
   pub lent-is : (lent : List ℕ) → Lends b lent → LentIs b lent
   unfolding lentIn
@@ -79,7 +79,7 @@ module _ (b : List ℕ) (good : systemRefusal b ≡ 0) where
   lends-behind n all l long below =
       at-all-below (qOf b) _ (λ i h.
       let within : i < nOf b + nOf b + mOf b = omega (arith, h, length-take (nOf b + nOf b + mOf b) (drop n l)) in
-      rw (getD-take (nOf b + nOf b + mOf b) (drop n l) i 0 within, getD-drop n l i 0) (front-below (qOf b) all l (rw (← size-is) (field (qOf b) .zero-below)) below (n + i) (omega arith)))
+      rw (getD-take (nOf b + nOf b + mOf b) (drop n l) i 0 within, getD-drop n l i 0) (front-below (qOf b) all l (rw (← size-is) (ring (qOf b) .zero-below)) below (n + i) (omega arith)))
 
 -- ---- commitments
 

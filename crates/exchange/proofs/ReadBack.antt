@@ -147,7 +147,7 @@ five-commitments-back c k =
 
 -- ---- elements
 
-below-append : (q : ℕ) (s t : List ℕ) → allBelow q s ≡ true → allBelow q t ≡ true → allBelow q (s ++ t) ≡ true
+pub below-append : (q : ℕ) (s t : List ℕ) → allBelow q s ≡ true → allBelow q t ≡ true → allBelow q (s ++ t) ≡ true
 unfolding allBelow
 below-append q [] t hs ht = ht
 below-append q (x ∷ s) t hs ht =

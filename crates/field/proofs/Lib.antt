@@ -1,8 +1,8 @@
--- The laws of a field, of vectors and of rows; `Fields` is where a field plugs in.
+-- The laws of rings and fields, of vectors and of rows; `Fields` is where a field plugs in.
 pub mod Modulus
-pub mod Prime
+pub mod Sums
+pub mod Trial
 pub mod Remainders
 pub mod Fields
 pub mod Vectors
 pub mod Rows
-pub mod Sums

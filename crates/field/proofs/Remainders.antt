@@ -1,13 +1,13 @@
--- Remainders by p obey the laws of `Field`, those of sums and products for every p above 0, and cancellation for every prime. Assumes nothing.
-use Prim.Native.Nat.{ℕ, suc, _+_, _-_, _*_, _/_, _%_, _≤_, _<_, _∣_}
-use mathlib.Core.Path.{_≡_, sym, ap, subst, _∙_}
+-- Remainders by a number above 0 are a ring, and by a prime a field. Assumes nothing.
+use Prim.Native.Nat.{ℕ, zero, suc, _+_, _-_, _*_, _/_, _%_, _≤_, _<_, _∣_}
+use mathlib.Core.Path.{_≡_, refl, sym, ap, ap₂, _∙_}
 use mathlib.Core.Logic.{⊎-elim}
-use native.Mathlib.Nat.{add-assoc, add-comm, zero-add, add-mul, mul-add, mul-assoc, mul-comm, mul-sub, mod-lt, mod-eq-of-lt, mod-add-mod, add-mod-mod, mul-add-mod-self-left, div-add-mod, dvd-mul-right, dvd-sub, le-of-dvd, pos-of-ne-zero, eq-or-lt-of-le, lt-of-not-le}
+use native.Mathlib.Nat.{add-assoc, add-comm, zero-add, add-mul, mul-add, mul-assoc, mul-comm, one-mul, mod-lt, mod-self, mod-eq-of-lt, mod-add-mod, add-mod-mod, mul-add-mod-self-left, div-add-mod, dvd-of-mod-eq-zero, pos-of-ne-zero}
 use native.Mathlib.Omega.{arith}
-use native.Mathlib.Decide.{decLe}
-use Rattle.field.specs.Ops.{remainders}
-use Rattle.field.specs.Field.{Field}
-use Rattle.field.proofs.Prime.{Prime, euclid}
+use Rattle.field.specs.Ops.{Ops, remainders}
+use Rattle.field.specs.Field.{Ring, Inverse, Field}
+use Rattle.field.specs.Prime.{Prime}
+use Rattle.field.proofs.Sums as S
 
 -- ---- products of remainders
 
@@ -29,46 +29,11 @@ sub-adds-up a b p pos =
     let split : p * (b / p) + b % p ≡ b = div-add-mod b p in
     omega arith
 
--- ---- cancellation
+-- ---- the ring
 
--- what the laws leave to the kind of p
-pub Cancels : ℕ → Type 0
-Cancels p = (a b c : ℕ) → a < p → b < p → c < p → (a ≡ 0 → ⊥) → a * b % p ≡ a * c % p → b ≡ c
-
--- two numbers with one remainder differ by a multiple
-same-remainder : (p x y : ℕ) → x % p ≡ y % p → p ∣ y - x
-same-remainder p x y e =
-    let dx : p * (x / p) + x % p ≡ x = div-add-mod x p in
-    let dy : p * (y / p) + y % p ≡ y = div-add-mod y p in
-    let gap : p * (y / p) - p * (x / p) ≡ y - x = omega arith in
-    subst (λ (k : ℕ). p ∣ k) gap (dvd-sub p (dvd-mul-right p (y / p)) (dvd-mul-right p (x / p)))
-
-module _ (p : ℕ) (prime : Prime p) where
-  -- no c is above b
-  not-above : (a b c : ℕ) → a < p → c < p → (a ≡ 0 → ⊥) → a * b % p ≡ a * c % p → b < c → ⊥
-  not-above a b c la lc nz e lt =
-      let divides : p ∣ c - b =
-      euclid p prime a (c - b) (pos-of-ne-zero nz) la (subst (λ (k : ℕ). p ∣ k) (sym (mul-sub a c b)) (same-remainder p (a * b) (a * c) e)) in
-      let small : p ≤ c - b = le-of-dvd (omega arith) divides in
-      omega arith
-
-  pub prime-cancels : Cancels p
-  unfolding Cancels
-  prime-cancels a b c la lb lc nz e =
-      elim (decLe b c) [
-        | yes h ↦ ⊎-elim (λ (same : b ≡ c). same) (λ (lt : b < c). absurd (not-above a b c la lc nz e lt)) (eq-or-lt-of-le h)
-        | no h ↦ absurd (not-above a c b la lb nz (sym e) (lt-of-not-le h))
-      ]
-
-pub one-cancels : Cancels 1
-unfolding Cancels
-one-cancels a b c la lb lc nz e = omega arith
-
--- ---- the structure
-
-pub remainders-field : (p : ℕ) → 0 < p → Cancels p → Field (remainders p)
-unfolding remainders Cancels
-remainders-field p pos cancel = record {
+pub remainders-ring : (p : ℕ) → 0 < p → Ring (remainders p)
+unfolding remainders
+remainders-ring p pos = record {
   zero-below = pos;
   add-below = λ a b. mod-lt (a + b) pos;
   sub-below = λ a b. mod-lt (a + (p - b % p)) pos;
@@ -80,7 +45,67 @@ remainders-field p pos cancel = record {
       mod-add-mod (a + (p - b % p)) p b ∙ ap (λ (k : ℕ). k % p) (sub-adds-up a b p pos) ∙ mul-add-mod-self-left p (suc (b / p)) a ∙ mod-eq-of-lt h;
   mul-assoc = λ a b c. mod-mul (a * b) c p ∙ ap (λ (k : ℕ). k % p) (mul-assoc a b c) ∙ sym (mul-mod a (b * c) p);
   mul-comm = λ a b. ap (λ (k : ℕ). k % p) (mul-comm a b);
+  one-mul = λ a h. ap (λ (k : ℕ). k % p) (one-mul a) ∙ mod-eq-of-lt h;
   mul-add = λ a b c.
       mul-mod a (b + c) p ∙ ap (λ (k : ℕ). k % p) (mul-add a b c) ∙ sym (mod-add-mod (a * b) p (a * c % p) ∙ add-mod-mod (a * b) (a * c) p);
-  mul-cancel = cancel;
 }
+
+-- ---- inverses, by Euclid's algorithm
+
+module _ (o : Ops) (k : Ring o) where
+  open Ops o using (size, add, sub, mul)
+
+  -- a·x + a·(0 - x) = 0
+  opposite : (a x : ℕ) → add (mul a x) (mul a (sub 0 x)) ≡ 0
+  opposite a x = sym (k .mul-add a x (sub 0 x)) ∙ ap (mul a) (k .add-comm x (sub 0 x) ∙ k .sub-add 0 x (k .zero-below)) ∙ S.mul-nought o k a
+
+  -- where a·d + r = 0 and r·c = 1, a·(d·c) + 1 = 0
+  with-one : (a d r c : ℕ) → add (mul a d) r ≡ 0 → mul r c ≡ 1 → add (mul a (mul d c)) 1 ≡ 0
+  with-one a d r c e one =
+      ap₂ add (sym (k .mul-assoc a d c)) (sym one) ∙ sym (S.add-mul o k (mul a d) r c) ∙ ap (λ (t : ℕ). mul t c) e ∙ k .mul-comm 0 c ∙ S.mul-nought o k c
+
+  -- so an inverse of r gives one of a
+  inverse-step : (a d r : ℕ) → 1 < size → add (mul a d) r ≡ 0 → Inverse o r → Inverse o a
+  inverse-step a d r one e i =
+      let x = mul d (i .value) in
+      record {
+        value = sub 0 x;
+        below = k .sub-below 0 x;
+        product =
+            sym (S.sub-of o k 0 (mul a x) (mul a (sub 0 x)) (k .mul-below a (sub 0 x)) (opposite a x)) ∙
+            S.sub-of o k 0 (mul a x) 1 one (with-one a d r (i .value) e (i .product));
+      }
+
+module _ (p : ℕ) (prime : Prime p) where
+  ring : Ring (remainders p)
+  ring = remainders-ring p (omega (arith, prime .above-one))
+
+  -- a divisor below p is 1
+  only-one : (a : ℕ) → a < p → a ∣ p → a ≡ 1
+  only-one a lt d = ⊎-elim (λ one. omega arith) (λ same. omega arith) (prime .divisors a d)
+
+  -- a·(p / a) + p % a is p
+  opposite-remainder : (a : ℕ) → remainders p .add (remainders p .mul a (p / a)) (p % a) ≡ 0
+  unfolding remainders
+  opposite-remainder a = mod-add-mod (a * (p / a)) p (p % a) ∙ ap (λ (k : ℕ). k % p) (div-add-mod p a) ∙ mod-self p
+
+  inverse-of-one : (a : ℕ) → a ≡ 1 → Inverse (remainders p) a
+  unfolding remainders
+  inverse-of-one a e = record { value = 1; below = prime .above-one; product = ap (λ (k : ℕ). k * 1 % p) e ∙ ring .one-mul 1 (prime .above-one) }
+
+  descend : (fuel a : ℕ) → a ≤ fuel → 0 < a → a < p → Inverse (remainders p) a
+  unfolding remainders
+  descend zero a h pos lt = absurd (omega arith)
+  descend (suc fuel) a h pos lt = go (p % a) refl (descend fuel)
+    where
+      go : (r : ℕ) → p % a ≡ r → ((b : ℕ) → b ≤ fuel → 0 < b → b < p → Inverse (remainders p) b) → Inverse (remainders p) a
+      go zero e rec = inverse-of-one a (only-one a lt (dvd-of-mod-eq-zero a e))
+      go (suc r) e rec =
+          let below : p % a < a = mod-lt p pos in
+          inverse-step (remainders p) ring a (p / a) (p % a) (prime .above-one) (opposite-remainder a) (rec (p % a) (omega arith) (omega arith) (omega arith))
+
+-- the field of a prime
+pub prime-field : (p : ℕ) → Prime p → Field (remainders p)
+unfolding remainders
+prime-field p prime =
+    record { ring = ring p prime; one-below = prime .above-one; inverse = λ a h some. descend p prime a a (omega arith) (pos-of-ne-zero some) h }

@@ -1,13 +1,13 @@
--- What follows from the laws of a field: more laws of sums and products, and of sums over an index. Assumes nothing.
+-- What follows from the laws of a ring, of sums over an index too, and from those of a field. Assumes nothing.
 use Prim.Native.Nat.{ℕ, zero, suc, _+_, _<_}
 use mathlib.Core.Path.{_≡_, refl, sym, ap, ap₂, _∙_}
 use native.Mathlib.Nat.{add-zero, add-suc}
 use native.Mathlib.Omega.{arith}
 use Rattle.field.specs.Ops.{Ops}
-use Rattle.field.specs.Field.{Field}
+use Rattle.field.specs.Field.{Ring, Inverse, Field}
 use Rattle.field.specs.Vector.{sum}
 
-module _ (o : Ops) (k : Field o) where
+module _ (o : Ops) (k : Ring o) where
   open Ops o using (size, add, sub, mul)
 
   -- ---- elements
@@ -68,3 +68,16 @@ module _ (o : Ops) (k : Field o) where
   sum-split m zero f = ap (λ (t : ℕ). sum o t f) (add-zero m) ∙ sym (add-nought (sum o m f) (sum-below m f))
   sum-split m (suc n) f =
       ap (λ (t : ℕ). sum o t f) (add-suc m n) ∙ ap (λ (t : ℕ). add t (f (m + n))) (sum-split m n f) ∙ k .add-assoc _ _ _
+
+-- ---- in a field
+
+-- a product with an element other than 0 can be cancelled
+pub mul-cancel : (o : Ops) → Field o → (a b c : ℕ) → a < o .size → b < o .size → c < o .size → (a ≡ 0 → ⊥) → o .mul a b ≡ o .mul a c → b ≡ c
+mul-cancel o f a b c ha hb hc some e = sym (undo b hb) ∙ ap (o .mul (i .value)) e ∙ undo c hc
+  where
+    i : Inverse o a
+    i = f .inverse a ha some
+
+    undo : (x : ℕ) → x < o .size → o .mul (i .value) (o .mul a x) ≡ x
+    undo x h =
+        sym (f .ring .mul-assoc (i .value) a x) ∙ ap (λ (t : ℕ). o .mul t x) (f .ring .mul-comm (i .value) a ∙ i .product) ∙ f .ring .one-mul x h

@@ -20,6 +20,10 @@ held l = vector (length l) (λ i. l ! i)
 unfoldable pub slotV : ℕ → ℕ → List ℕ → List ℕ
 slotV n place l = vector n (λ i. l ! (place + i))
 
+-- each of the list is an element of a field of q
+abbrev pub Elements : ℕ → List ℕ → Type 0
+Elements q l = (i : ℕ) → i < length l → l ! i < q
+
 -- x is a vector of n elements
 pub record IsVector (o : Ops) (n : ℕ) (x : List ℕ) : Type 0 where
   pub held : x ≡ vector n (λ i. x ! i)

@@ -12,7 +12,7 @@ use lib.Seq.{getD-take}
 use Rattle.slices.specs.Slices.{_!_}
 use Rattle.field.specs.Vector.{vector, slotV}
 use Rattle.field.proofs.Modulus.{size-of}
-use Rattle.field.proofs.Fields.{field}
+use Rattle.field.proofs.Fields.{ring}
 use Rattle.system.specs.System.{qOf, nOf, mOf, opsOf, systemRefusal}
 use Rattle.system.proofs.SystemLayout.{accepted}
 use Rattle.protocol.specs.Rounds.{IsX, IsY, IsScalar}
@@ -69,14 +69,14 @@ module _ (scheme : ℕ) (system a b : List ℕ) where
     size-is = size-of (qOf system) (accepted system good .is-field) ∙ k .has-q
 
     positive : 0 < headerIn b .q
-    positive = rw (sym size-is) (field (qOf system) .zero-below)
+    positive = rw (sym size-is) (ring (qOf system) .zero-below)
 
     pub v-is : IsY system (keyVector b)
     unfolding keyVector fieldsIn layoutOf
     v-is =
         let valid = valid-fields b (not-refused b (k .well-formed)) in
         let long : length (fieldsIn b .key) ≡ mOf system = valid .key-length ∙ sym (k .has-m) in
-        rw long (is-vector (opsOf system) (field (qOf system)) (mOf system) _ (λ i h. rw size-is (everywhere (headerIn b .q) (fieldsIn b .key) positive (valid .key-elements) i)))
+        rw long (is-vector (opsOf system) (ring (qOf system)) (mOf system) _ (λ i h. rw size-is (everywhere (headerIn b .q) (fieldsIn b .key) positive (valid .key-elements) i)))
 
     pub x-is : (r : ℕ) → r < headerIn b .rounds → IsX system (replyVector system b r)
     unfolding replyVector slotV
@@ -86,7 +86,7 @@ module _ (scheme : ℕ) (system a b : List ℕ) where
         let read : (i : ℕ) → i < nOf system → roundReply b r ! (0 + i) ≡ vectors ! i =
         λ i below. ap (λ (j : ℕ). roundReply b r ! j) (zero-add i) ∙ reply-at (headerIn b) (roundExchange b r) i (rw (k .has-n) at below)
         in
-        is-vector (opsOf system) (field (qOf system)) (nOf system) _ (λ i below.
+        is-vector (opsOf system) (ring (qOf system)) (nOf system) _ (λ i below.
         subst (λ (x : ℕ). x < opsOf system .size) (sym (read i below)) (rw size-is (everywhere (headerIn b .q) vectors positive (valid .reply-elements) i)))
 
     pub alpha-is : (r : ℕ) → r < headerIn b .rounds → IsScalar system (roundMiddle b r ! 0)

@@ -7,7 +7,7 @@ use lib.Dec.{eqb}
 use lib.ListN.{length, take}
 use Rattle.slices.proofs.Booleans.{either}
 use Rattle.field.specs.Vector.{allBelow}
-use Rattle.field.proofs.Fields.{field}
+use Rattle.field.proofs.Fields.{ring}
 use Rattle.system.specs.System.{qOf, nOf, mOf, opsOf, systemRefusal, F}
 use Rattle.system.proofs.SystemLayout.{accepted}
 use Rattle.protocol.specs.Protocols as P
@@ -76,7 +76,7 @@ module _ (b : List ℕ) (good : systemRefusal b ≡ 0) where
     five-reply-is h challenge =
         either (IsReplyFive (opsOf b) (nOf b)) (eqb challenge 0) _ _
         (record { x-is = lent-is b good lent h .r0-is; rho-long = length-bytes _ lent })
-        (record { x-is = vectors (opsOf b) (field (qOf b)) (nOf b) .sub-is s _; rho-long = length-bytes _ lent })
+        (record { x-is = vectors (opsOf b) (ring (qOf b)) (nOf b) .sub-is s _; rho-long = length-bytes _ lent })
 
     -- ---- is accepted
 

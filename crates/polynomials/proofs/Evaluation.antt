@@ -7,9 +7,9 @@ use native.Mathlib.Omega.{arith}
 use lib.ListN.{replicate, getD-replicate}
 use Rattle.slices.specs.Slices.{_!_}
 use Rattle.field.specs.Ops.{Ops}
-use Rattle.field.specs.Field.{Field}
+use Rattle.field.specs.Field.{Ring}
 use Rattle.field.specs.Vector.{sum}
-use Rattle.field.proofs.Fields.{field}
+use Rattle.field.proofs.Fields.{ring}
 use Rattle.field.proofs.Sums.{add-nought, mul-nought, sum-below, sum-cong, sum-split}
 use Rattle.field.proofs.Vectors.{vector-cong}
 use Rattle.system.specs.Polynomial.{pairs, polynomial}
@@ -20,7 +20,7 @@ use Rattle.polynomials.proofs.Forms.{pairs-cong}
 use Rattle.polynomials.proofs.Laws.{G-expanded}
 use Rattle.system.proofs.SystemLayout.{triangle-whole, width-is}
 
-module _ (o : Ops) (k : Field o) where
+module _ (o : Ops) (k : Ring o) where
   open Ops o using (size, add, mul)
 
   -- a sum over the triangle, row by row
@@ -64,20 +64,20 @@ module _ (b : List ℕ) (small : nOf b ≤ 96) where
   unfolding timesRow F polynomial quadratic linear
   evaluated x row m =
       vector-cong (mOf b) _ _ (λ l h below.
-      row-product (opsOf b) (field (qOf b)) (nOf b) (λ i. b ! (3 + l * width (nOf b) + i)) x x (replicate 96 0) x row m ∙
-      ap₂ ((opsOf b) .add) (pairs-cong (opsOf b) (field (qOf b)) (nOf b) _ _ (λ i j hi hj. ap ((opsOf b) .mul _) (square i j hi))) refl)
+      row-product (opsOf b) (ring (qOf b)) (nOf b) (λ i. b ! (3 + l * width (nOf b) + i)) x x (replicate 96 0) x row m ∙
+      ap₂ ((opsOf b) .add) (pairs-cong (opsOf b) (ring (qOf b)) (nOf b) _ _ (λ i j hi hj. ap ((opsOf b) .mul _) (square i j hi))) refl)
     where
       square : (i j : ℕ) → i < nOf b → monomial (opsOf b) x x (replicate 96 0) i j ≡ (opsOf b) .mul (x ! i) (x ! j)
       square i j h =
-          ap ((opsOf b) .add ((opsOf b) .mul (x ! i) (x ! j))) (ap (λ (t : ℕ). (opsOf b) .mul t (x ! j)) (zeros-at i h) ∙ nought-mul (opsOf b) (field (qOf b)) (x ! j)) ∙
-          add-nought (opsOf b) (field (qOf b)) _ ((field (qOf b)) .mul-below (x ! i) (x ! j))
+          ap ((opsOf b) .add ((opsOf b) .mul (x ! i) (x ! j))) (ap (λ (t : ℕ). (opsOf b) .mul t (x ! j)) (zeros-at i h) ∙ nought-mul (opsOf b) (ring (qOf b)) (x ! j)) ∙
+          add-nought (opsOf b) (ring (qOf b)) _ ((ring (qOf b)) .mul-below (x ! i) (x ! j))
 
   pub polarised : (x y row : List ℕ) → Monomials (opsOf b) (nOf b) x y y (replicate 96 0) row →
       timesRow b row ≡ G b x y
   unfolding timesRow expanded polar crossed quadratic pairs
   polarised x y row m =
       vector-cong (mOf b) _ _ (λ l h below.
-      row-product (opsOf b) (field (qOf b)) (nOf b) (λ i. b ! (3 + l * width (nOf b) + i)) x y y (replicate 96 0) row m ∙
-      ap ((opsOf b) .add _) (sum-cong (opsOf b) (field (qOf b)) (nOf b) _ _ (λ i s. ap ((opsOf b) .mul _) (zeros-at i s)) ∙ sum-nought (opsOf b) (field (qOf b)) (nOf b) _) ∙
-      add-nought (opsOf b) (field (qOf b)) _ (sum-below (opsOf b) (field (qOf b)) (nOf b) _)) ∙
+      row-product (opsOf b) (ring (qOf b)) (nOf b) (λ i. b ! (3 + l * width (nOf b) + i)) x y y (replicate 96 0) row m ∙
+      ap ((opsOf b) .add _) (sum-cong (opsOf b) (ring (qOf b)) (nOf b) _ _ (λ i s. ap ((opsOf b) .mul _) (zeros-at i s)) ∙ sum-nought (opsOf b) (ring (qOf b)) (nOf b) _) ∙
+      add-nought (opsOf b) (ring (qOf b)) _ (sum-below (opsOf b) (ring (qOf b)) (nOf b) _)) ∙
       sym (G-expanded b small x y)

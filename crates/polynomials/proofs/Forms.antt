@@ -1,15 +1,15 @@
--- Laws of sums over pairs, of a polynomial and of its polar form, over any field. Assumes nothing.
+-- Laws of sums over pairs, of a polynomial and of its polar form, over any ring. Assumes nothing.
 use Prim.Native.Nat.{ℕ, _+_, _-_, _<_}
 use mathlib.Core.Path.{_≡_, ap, ap₂, fun-ext, _∙_}
 use native.Mathlib.Omega.{arith}
 use Rattle.field.specs.Ops.{Ops}
-use Rattle.field.specs.Field.{Field}
+use Rattle.field.specs.Field.{Ring}
 use Rattle.field.specs.Vector.{sum}
 use Rattle.field.proofs.Sums.{add-left-comm, add-mul, mul-left-comm, sum-below, sum-cong, sum-add, sum-mul}
 use Rattle.system.specs.Polynomial.{pairs, polynomial}
 use Rattle.polynomials.specs.Polar.{crossed, polar}
 
-module _ (o : Ops) (k : Field o) where
+module _ (o : Ops) (k : Ring o) where
   open Ops o using (size, add, sub, mul)
 
   -- ---- sums over pairs

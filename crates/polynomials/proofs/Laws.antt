@@ -4,10 +4,10 @@ use mathlib.Core.Path.{_≡_, refl, sym, ap, ap₂, _∙_}
 use mathlib.Core.List.{List}
 use native.Mathlib.Omega.{arith}
 use Rattle.field.specs.Ops.{Ops}
-use Rattle.field.specs.Field.{Field}
+use Rattle.field.specs.Field.{Ring}
 use Rattle.slices.specs.Slices.{_!_}
 use Rattle.field.specs.Vector.{vector, addV, subV, mulV}
-use Rattle.field.proofs.Fields.{field}
+use Rattle.field.proofs.Fields.{ring}
 use Rattle.field.proofs.Vectors.{vector-at, vector-cong}
 use Rattle.field.proofs.Sums.{sub-of}
 use Rattle.system.specs.Polynomial.{polynomial}
@@ -16,7 +16,7 @@ use Rattle.polynomials.specs.Polar.{polar, expanded}
 use Rattle.polynomials.proofs.Forms.{polar-below, polynomial-cong, polynomial-add, polar-cong, polar-comm, polar-add, polar-mul}
 
 -- what is left of a sum when its first two parts are taken away
-sub-sub : (o : Ops) (k : Field o) (s p q r : ℕ) → r < o .size → s ≡ o .add p (o .add q r) → o .sub (o .sub s p) q ≡ r
+sub-sub : (o : Ops) (k : Ring o) (s p q r : ℕ) → r < o .size → s ≡ o .add p (o .add q r) → o .sub (o .sub s p) q ≡ r
 sub-sub o k s p q r h e =
     ap (λ (t : ℕ). o .sub t q) (sub-of o k s p (o .add q r) (k .add-below q r) (sym e)) ∙ sub-of o k (o .add q r) q r h refl
 
@@ -31,15 +31,15 @@ module _ (b : List ℕ) (small : nOf b ≤ 96) where
   value-add : (l : ℕ) (x y : List ℕ) → value l (addV (opsOf b) (nOf b) x y) ≡ (opsOf b) .add (value l x) ((opsOf b) .add (value l y) (polar-value l x y))
   unfolding addV value polar-value
   value-add l x y =
-      polynomial-cong (opsOf b) (field (qOf b)) (nOf b) (quadratic b l) (linear b l) _ _ (λ i h. vector-at (nOf b) _ i h (omega arith)) ∙
-      polynomial-add (opsOf b) (field (qOf b)) (nOf b) (quadratic b l) (linear b l) (λ i. x ! i) (λ i. y ! i)
+      polynomial-cong (opsOf b) (ring (qOf b)) (nOf b) (quadratic b l) (linear b l) _ _ (λ i h. vector-at (nOf b) _ i h (omega arith)) ∙
+      polynomial-add (opsOf b) (ring (qOf b)) (nOf b) (quadratic b l) (linear b l) (λ i. x ! i) (λ i. y ! i)
 
   pub G-expanded : (x y : List ℕ) → G b x y ≡ expanded b x y
   unfolding G F subV expanded value polar-value
   G-expanded x y =
       vector-cong (mOf b) _ _ (λ l h below.
       simp vector-at
-      (sub-sub (opsOf b) (field (qOf b)) _ (value l x) (value l y) (polar-value l x y) (polar-below (opsOf b) (field (qOf b)) (nOf b) (quadratic b l) _ _) (value-add l x y)))
+      (sub-sub (opsOf b) (ring (qOf b)) _ (value l x) (value l y) (polar-value l x y) (polar-below (opsOf b) (ring (qOf b)) (nOf b) (quadratic b l) _ _) (value-add l x y)))
 
   -- F(x+y) = F(x) + F(y) + G(x,y)
   pub F-add : (x y : List ℕ) →
@@ -47,14 +47,14 @@ module _ (b : List ℕ) (small : nOf b ≤ 96) where
   unfolding F addV expanded value polar-value
   F-add x y =
       vector-cong (mOf b) _ _ (λ l h below.
-      simp (G-expanded x y, vector-at) (value-add l x y ∙ sym ((field (qOf b)) .add-assoc (value l x) (value l y) (polar-value l x y))))
+      simp (G-expanded x y, vector-at) (value-add l x y ∙ sym ((ring (qOf b)) .add-assoc (value l x) (value l y) (polar-value l x y))))
 
   -- G(x,y) = G(y,x)
   pub G-comm : (x y : List ℕ) → G b x y ≡ G b y x
   unfolding expanded
   G-comm x y =
       G-expanded x y ∙
-      vector-cong (mOf b) _ _ (λ l h below. polar-comm (opsOf b) (field (qOf b)) (nOf b) (quadratic b l) _ _) ∙
+      vector-cong (mOf b) _ _ (λ l h below. polar-comm (opsOf b) (ring (qOf b)) (nOf b) (quadratic b l) _ _) ∙
       sym (G-expanded y x)
 
   -- G(x+x′,y) = G(x,y) + G(x′,y)
@@ -64,8 +64,8 @@ module _ (b : List ℕ) (small : nOf b ≤ 96) where
       G-expanded _ y ∙
       vector-cong (mOf b) _ _ (λ l h below.
       simp (G-expanded x y, G-expanded x′ y, vector-at)
-      (polar-cong (opsOf b) (field (qOf b)) (nOf b) (quadratic b l) _ _ _ _ (λ i s. vector-at (nOf b) _ i s (omega arith)) (λ i s. refl) ∙
-      polar-add (opsOf b) (field (qOf b)) (nOf b) (quadratic b l) (λ i. x ! i) (λ i. x′ ! i) (λ i. y ! i)))
+      (polar-cong (opsOf b) (ring (qOf b)) (nOf b) (quadratic b l) _ _ _ _ (λ i s. vector-at (nOf b) _ i s (omega arith)) (λ i s. refl) ∙
+      polar-add (opsOf b) (ring (qOf b)) (nOf b) (quadratic b l) (λ i. x ! i) (λ i. x′ ! i) (λ i. y ! i)))
 
   -- G(x,y+y′) = G(x,y) + G(x,y′)
   pub G-add-right : (x y y′ : List ℕ) → G b x (addV (opsOf b) (nOf b) y y′) ≡ addV (opsOf b) (mOf b) (G b x y) (G b x y′)
@@ -78,20 +78,24 @@ module _ (b : List ℕ) (small : nOf b ≤ 96) where
       G-expanded _ y ∙
       vector-cong (mOf b) _ _ (λ l h below.
       simp (G-expanded x y, vector-at)
-      (polar-cong (opsOf b) (field (qOf b)) (nOf b) (quadratic b l) _ _ _ _ (λ i s. vector-at (nOf b) _ i s (omega arith)) (λ i s. refl) ∙
-      polar-mul (opsOf b) (field (qOf b)) (nOf b) (quadratic b l) c (λ i. x ! i) (λ i. y ! i)))
+      (polar-cong (opsOf b) (ring (qOf b)) (nOf b) (quadratic b l) _ _ _ _ (λ i s. vector-at (nOf b) _ i s (omega arith)) (λ i s. refl) ∙
+      polar-mul (opsOf b) (ring (qOf b)) (nOf b) (quadratic b l) c (λ i. x ! i) (λ i. y ! i)))
+
+  -- G(x,αy) = αG(x,y)
+  pub G-mul-right : (c : ℕ) (x y : List ℕ) → G b x (mulV (opsOf b) (nOf b) c y) ≡ mulV (opsOf b) (mOf b) c (G b x y)
+  G-mul-right c x y = G-comm x _ ∙ G-mul c y x ∙ ap (mulV (opsOf b) (mOf b) c) (G-comm y x)
 
   -- F and G look at no more of their arguments than n elements
   pub F-held : (x : List ℕ) → F b (vector (nOf b) (λ i. x ! i)) ≡ F b x
   unfolding F
   F-held x =
       vector-cong (mOf b) _ _ (λ l h below.
-      polynomial-cong (opsOf b) (field (qOf b)) (nOf b) (quadratic b l) (linear b l) _ _ (λ i s. vector-at (nOf b) _ i s (omega arith)))
+      polynomial-cong (opsOf b) (ring (qOf b)) (nOf b) (quadratic b l) (linear b l) _ _ (λ i s. vector-at (nOf b) _ i s (omega arith)))
 
   pub G-held : (x y : List ℕ) → G b (vector (nOf b) (λ i. x ! i)) (vector (nOf b) (λ i. y ! i)) ≡ G b x y
   unfolding expanded
   G-held x y =
       G-expanded _ _ ∙
       vector-cong (mOf b) _ _ (λ l h below.
-      polar-cong (opsOf b) (field (qOf b)) (nOf b) (quadratic b l) _ _ _ _ (λ i s. vector-at (nOf b) _ i s (omega arith)) (λ i s. vector-at (nOf b) _ i s (omega arith))) ∙
+      polar-cong (opsOf b) (ring (qOf b)) (nOf b) (quadratic b l) _ _ _ _ (λ i s. vector-at (nOf b) _ i s (omega arith)) (λ i s. vector-at (nOf b) _ i s (omega arith))) ∙
       sym (G-expanded x y)

@@ -1,4 +1,8 @@
 // F and G by value. The monomials of the arguments are formed once, and each polynomial is then one product of two rows.
+//
+// F calls with `sparse`, and a product that is 0 is left out; G, whose vectors are secret, calls without it, and nothing looks
+// whether a factor is 0. That G's time does not tell of them is by the form of the code and not proved: a contract says what
+// is computed, and nothing of time.
 use rows::combine;
 use rows::dot;
 use system::width;

@@ -14,7 +14,7 @@ use Rattle.protocol.proofs.SystemMap.{system-map}
 
 module _ (b : List ℕ) (good : systemRefusal b ≡ 0) where
   pub quadratic-map : QuadraticMap (mapOf b) (IsX b) (IsY b) (IsScalar b)
-  quadratic-map = system-map b (accepted b good .n-high)
+  quadratic-map = let k = accepted b good in system-map b (k .is-field) (k .n-high)
 
   -- Completeness, three passes.
   pub completeness-three : (v s r0 t0 e0 : List ℕ) → IsX b s → IsX b r0 → IsX b t0 → IsY b e0 → F b s ≡ v →

@@ -1,16 +1,17 @@
--- The structure of a system's bytes: vectors of n and of m elements are groups, and a system of at most 96 unknowns is a quadratic map. Assumes nothing.
+-- The structure of a system's bytes: vectors of n and of m elements are groups, and a system is a quadratic map. Assumes nothing.
 use Prim.Native.Nat.{ℕ, _≤_, _<_}
 use mathlib.Core.Path.{_≡_, sym, ap, _∙_}
+use mathlib.Core.Bool.{true}
 use mathlib.Core.List.{List}
 use native.Mathlib.Nat.{lt-of-not-le}
 use native.Mathlib.Decide.{decLe}
 use Rattle.slices.specs.Slices.{_!_}
 use Rattle.slices.proofs.Tabulate.{tabulate-beyond}
-use Rattle.field.specs.Ops.{Ops}
-use Rattle.field.specs.Field.{Field}
+use Rattle.field.specs.Ops.{Ops, isField}
+use Rattle.field.specs.Field.{Ring, Field}
 use Rattle.field.specs.Vector.{vector, IsVector, addV, subV, mulV}
-use Rattle.field.proofs.Fields.{field}
-use Rattle.field.proofs.Sums.{add-mul, sub-of}
+use Rattle.field.proofs.Fields.{ring, field}
+use Rattle.field.proofs.Sums.{add-mul, sub-of, mul-cancel}
 use Rattle.field.proofs.Vectors.{vector-at, vector-beyond, vector-cong}
 use Rattle.system.specs.System.{qOf, nOf, mOf, opsOf, quadratic, linear, F}
 use Rattle.polynomials.proofs.Forms.{polynomial-below}
@@ -18,7 +19,7 @@ use Rattle.polynomials.proofs.Laws.{F-add, G-add-left, G-mul}
 use Rattle.protocol.specs.Structure.{AbelianGroup, QuadraticMap}
 use Rattle.protocol.specs.Rounds.{mapOf, IsX, IsY, IsScalar}
 
-module _ (o : Ops) (k : Field o) where
+module _ (o : Ops) (k : Ring o) where
   open Ops o using (size, add, sub, mul)
 
   -- ---- elements
@@ -29,11 +30,6 @@ module _ (o : Ops) (k : Field o) where
 
   sub-nonzero : (a b : ℕ) → a < size → b < size → (a ≡ b → ⊥) → sub a b ≡ 0 → ⊥
   sub-nonzero a b ha hb differ e = differ (sym (k .sub-add a b ha) ∙ ap (λ (t : ℕ). add t b) e ∙ k .zero-add b hb)
-
-  cancel-difference : (a b c d : ℕ) → a < size → b < size → (a ≡ b → ⊥) → c < size → d < size →
-      sub (mul a c) (mul b c) ≡ sub (mul a d) (mul b d) → c ≡ d
-  cancel-difference a b c d ha hb differ hc hd e =
-      k .mul-cancel (sub a b) c d (k .sub-below a b) hc hd (sub-nonzero a b ha hb differ) (sym (mul-sub a b c ha) ∙ e ∙ mul-sub a b d ha)
 
   -- ---- vectors of n elements
 
@@ -77,26 +73,34 @@ module _ (o : Ops) (k : Field o) where
     unfolding mulV
     mulV-is a x = is-vector _ (λ i h. k .mul-below _ _)
 
-    cancelV : (a b : ℕ) → a < size → b < size → (a ≡ b → ⊥) → (x y : List ℕ) → IsVector o n x → IsVector o n y →
-        subV o n (mulV o n a x) (mulV o n b x) ≡ subV o n (mulV o n a y) (mulV o n b y) → x ≡ y
-    unfolding subV mulV
-    cancelV a b ha hb differ x y hx hy e =
-        same-vector x y hx hy (λ i h l.
-        cancel-difference a b (x ! i) (y ! i) ha hb differ (hx .elements i) (hy .elements i) (simp vector-at at (ap (λ (t : List ℕ). t ! i) e)))
+-- ---- in a field a difference of two scalars can be cancelled
 
--- a system of at most 96 unknowns is a quadratic map
-pub system-map : (b : List ℕ) → nOf b ≤ 96 → QuadraticMap (mapOf b) (IsX b) (IsY b) (IsScalar b)
+cancel-difference : (o : Ops) → Field o → (a b c d : ℕ) → a < o .size → b < o .size → (a ≡ b → ⊥) → c < o .size → d < o .size →
+    o .sub (o .mul a c) (o .mul b c) ≡ o .sub (o .mul a d) (o .mul b d) → c ≡ d
+cancel-difference o f a b c d ha hb differ hc hd e =
+    let k = f .ring in
+    mul-cancel o f (o .sub a b) c d (k .sub-below a b) hc hd (sub-nonzero o k a b ha hb differ) (sym (mul-sub o k a b c ha) ∙ e ∙ mul-sub o k a b d ha)
+
+cancelV : (o : Ops) → Field o → (n a b : ℕ) → a < o .size → b < o .size → (a ≡ b → ⊥) → (x y : List ℕ) → IsVector o n x → IsVector o n y →
+    subV o n (mulV o n a x) (mulV o n b x) ≡ subV o n (mulV o n a y) (mulV o n b y) → x ≡ y
+unfolding subV mulV
+cancelV o f n a b ha hb differ x y hx hy e =
+    same-vector o (f .ring) n x y hx hy (λ i h l.
+    cancel-difference o f a b (x ! i) (y ! i) ha hb differ (hx .elements i) (hy .elements i) (simp vector-at at (ap (λ (t : List ℕ). t ! i) e)))
+
+-- a system of at most 96 unknowns over a field is a quadratic map
+pub system-map : (b : List ℕ) → isField (qOf b) ≡ true → nOf b ≤ 96 → QuadraticMap (mapOf b) (IsX b) (IsY b) (IsScalar b)
 unfolding mapOf F
-system-map b small =
+system-map b known small =
     record {
-      groupX = vectors (opsOf b) (field (qOf b)) (nOf b);
-      groupY = vectors (opsOf b) (field (qOf b)) (mOf b);
-      mulX-is = mulV-is (opsOf b) (field (qOf b)) (nOf b);
-      mulY-is = mulV-is (opsOf b) (field (qOf b)) (mOf b);
-      F-is = λ x. is-vector (opsOf b) (field (qOf b)) (mOf b) _ (λ l h. polynomial-below (opsOf b) (field (qOf b)) (nOf b) (quadratic b l) (linear b l) _);
+      groupX = vectors (opsOf b) (ring (qOf b)) (nOf b);
+      groupY = vectors (opsOf b) (ring (qOf b)) (mOf b);
+      mulX-is = mulV-is (opsOf b) (ring (qOf b)) (nOf b);
+      mulY-is = mulV-is (opsOf b) (ring (qOf b)) (mOf b);
+      F-is = λ x. is-vector (opsOf b) (ring (qOf b)) (mOf b) _ (λ l h. polynomial-below (opsOf b) (ring (qOf b)) (nOf b) (quadratic b l) (linear b l) _);
       F-add = F-add b small;
       G-add = G-add-left b small;
       G-mul = G-mul b small;
-      mul-add = mulV-add (opsOf b) (field (qOf b)) (mOf b);
-      cancel = cancelV (opsOf b) (field (qOf b)) (mOf b);
+      mul-add = mulV-add (opsOf b) (ring (qOf b)) (mOf b);
+      cancel = cancelV (opsOf b) (field (qOf b) known) (mOf b);
     }

@@ -6,6 +6,7 @@ use mathlib.Core.List.{List, [], _∷_, _++_}
 use lib.ListN.{length, take, drop}
 use Rattle.slices.specs.Slices.{_!_}
 use Rattle.field.specs.Ops.{isField}
+pub use Rattle.field.specs.Vector.{Elements}
 use Rattle.scheme.specs.Scheme as S
 use Rattle.record_form.specs.declared.layout.Header.{Header}
 use Rattle.record_form.specs.declared.layout.Body.{Body}
@@ -91,10 +92,6 @@ unfoldable pub vectorsOf : Header → List ℕ → List ℕ
 vectorsOf h exchange = take (S.vectorsLength (h .scheme) (h .n) (h .m)) (drop (S.middleLength (h .scheme) (h .n) (h .m) + 1) exchange)
 
 -- ---- well-formed
-
--- each is below q
-abbrev pub Elements : ℕ → List ℕ → Type 0
-Elements q l = (i : ℕ) → i < length l → l ! i < q
 
 -- an exchange whose elements and challenge are among their values
 pub record ValidExchange (h : Header) (exchange : List ℕ) : Type 0 where

@@ -12,7 +12,7 @@ use Rattle.slices.specs.Slices.{zeros}
 use Rattle.slices.proofs.Booleans.{and-both, and-left, and-right}
 use Rattle.refusal.proofs.Refusals.{both-zero, unless-holds, first-zero, later-zero, test-holds, equal-holds}
 use Rattle.field.specs.Vector.{allBelow}
-use Rattle.field.proofs.Fields.{field}
+use Rattle.field.proofs.Fields.{ring}
 use Rattle.field.proofs.Modulus.{size-of}
 use Rattle.system.specs.System.{qOf, nOf, mOf}
 use Rattle.system.proofs.SystemLayout.{accepted, well-formed, not-refused, at-all-below, all-below-at}
@@ -135,7 +135,7 @@ pub zeros-fit : (o : Opening) → Openable o → Fits o (zeroDraw o)
 unfolding zeroDraw zeros
 zeros-fit o k =
     let a = accepted (o .system) (not-refused (o .system) (k .for-carrier .system-well-formed)) in
-    let positive : 0 < qOf (o .system) = rw (sym (size-of (qOf (o .system)) (a .is-field))) (field (qOf (o .system)) .zero-below) in
+    let positive : 0 < qOf (o .system) = rw (sym (size-of (qOf (o .system)) (a .is-field))) (ring (qOf (o .system)) .zero-below) in
     let vectors = nOf (o .system) + nOf (o .system) + mOf (o .system) in
     record {
       lent-length = length-replicate {A = ℕ} _ 0;

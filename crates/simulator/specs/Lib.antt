@@ -1,2 +1,3 @@
--- What the contract of the simulator cites: document 01, "Simulator".
+-- What the contract of the simulator cites, and what is asked of its arguments: document 01, "Simulator".
+pub mod Arguments
 pub mod Simulator

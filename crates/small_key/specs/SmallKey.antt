@@ -5,14 +5,15 @@ use mathlib.Core.List.{List, [], _∷_}
 use lib.ListN.{length}
 use Rattle.slices.specs.Slices.{_!_}
 use Rattle.field.specs.Vector.{vector}
-use Rattle.system.specs.System.{F, G}
+use Rattle.system.specs.System.{nOf, mOf, F, G}
 use Rattle.protocol.specs.Protocols.{Vectors, unmasked, unmaskedBy, cardThree, cardFive, simulated}
 use Rattle.protocol.specs.Rounds.{mapOf}
 
-infix 40 _gives_
--- the assertion that all share: a vector has the printed elements, and zeros beyond them
-unfoldable pub _gives_ : List ℕ → List ℕ → Type 0
-computed gives printed = computed ≡ vector (length printed) (λ i. printed ! i)
+infix 40 _of_gives_
+-- the assertion that all share: of a vector of n elements all n are printed, it has the printed ones and zeros beyond. `gives-each` of proofs/Examples.antt
+-- says place by place what it tells
+unfoldable pub _of_gives_ : List ℕ → ℕ → List ℕ → Type 0
+computed of n gives printed = (length printed ≡ n) × (computed ≡ vector n (λ i. printed ! i))
 
 -- "q = 7, n = m = 2; f1 = (1,2,3,1,0), f2 = (0,1,5,0,4), in stored order"
 abbrev pub key : List ℕ
@@ -55,18 +56,25 @@ keyOfTwo = 2 ∷ 1 ∷ 1 ∷ 1 ∷ 0 ∷ []
 abbrev pub keyOfLarge : List ℕ
 keyOfLarge = 251 ∷ 1 ∷ 1 ∷ 1 ∷ 0 ∷ []
 
+-- the number of unknowns and of polynomials, from the keys' own bytes
+abbrev pub n : ℕ
+n = nOf key
+
+abbrev pub m : ℕ
+m = mOf key
+
 pub record SmallKey : Type 0 where
-  pub K1 : F key s gives 5 ∷ 6 ∷ []
-  pub K2 : F key r0 gives 1 ∷ 0 ∷ []
-  pub K3 : F key r1 gives 6 ∷ 4 ∷ []
-  pub K4 : G key r0 r1 gives 5 ∷ 2 ∷ []
-  pub K5 : threePasses .mask gives 2 ∷ 6 ∷ []
-  pub K6 : (threePasses .t1 gives 1 ∷ 6 ∷ []) × (threePasses .e1 gives 6 ∷ 2 ∷ [])
-  pub K7 : unmasked (mapOf key) v r1 (threePasses .t1) (threePasses .e1) gives 2 ∷ 6 ∷ []
+  pub K1 : F key s of m gives 5 ∷ 6 ∷ []
+  pub K2 : F key r0 of m gives 1 ∷ 0 ∷ []
+  pub K3 : F key r1 of m gives 6 ∷ 4 ∷ []
+  pub K4 : G key r0 r1 of m gives 5 ∷ 2 ∷ []
+  pub K5 : threePasses .mask of m gives 2 ∷ 6 ∷ []
+  pub K6 : (threePasses .t1 of n gives 1 ∷ 6 ∷ []) × (threePasses .e1 of m gives 6 ∷ 2 ∷ [])
+  pub K7 : unmasked (mapOf key) v r1 (threePasses .t1) (threePasses .e1) of m gives 2 ∷ 6 ∷ []
   pub K8 :
-      (fivePasses .t1 gives 4 ∷ 1 ∷ []) × (fivePasses .e1 gives 1 ∷ 2 ∷ []) ×
-      (unmaskedBy (mapOf key) 3 v r1 (fivePasses .t1) (fivePasses .e1) gives 2 ∷ 6 ∷ [])
-  pub K9 : (simulation .r1 gives 3 ∷ 6 ∷ []) × (simulation .e1 gives 2 ∷ 1 ∷ []) × (simulation .mask gives 4 ∷ 1 ∷ [])
-  pub K10 : F key (0 ∷ 0 ∷ []) gives 0 ∷ 0 ∷ []
-  pub K11 : G keyOfTwo (1 ∷ []) (1 ∷ []) gives 0 ∷ []
-  pub K12 : F keyOfLarge (250 ∷ []) gives 1 ∷ []
+      (fivePasses .t1 of n gives 4 ∷ 1 ∷ []) × (fivePasses .e1 of m gives 1 ∷ 2 ∷ []) ×
+      (unmaskedBy (mapOf key) 3 v r1 (fivePasses .t1) (fivePasses .e1) of m gives 2 ∷ 6 ∷ [])
+  pub K9 : (simulation .r1 of n gives 3 ∷ 6 ∷ []) × (simulation .e1 of m gives 2 ∷ 1 ∷ []) × (simulation .mask of m gives 4 ∷ 1 ∷ [])
+  pub K10 : F key (0 ∷ 0 ∷ []) of m gives 0 ∷ 0 ∷ []
+  pub K11 : G keyOfTwo (1 ∷ []) (1 ∷ []) of mOf keyOfTwo gives 0 ∷ []
+  pub K12 : F keyOfLarge (250 ∷ []) of mOf keyOfLarge gives 1 ∷ []

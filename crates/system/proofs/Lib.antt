@@ -1,2 +1,3 @@
--- A system is refused exactly when it is not well-formed, and what follows from its not being refused.
+-- A system is refused exactly when it is not well-formed, what follows from its not being refused, and that F is source document 000's.
+pub mod Folding
 pub mod SystemLayout

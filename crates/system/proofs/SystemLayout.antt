@@ -177,6 +177,16 @@ not-refused b w =
     (eq-eqb (suc (suc (suc (length (w .coefficients))))) (3 + w .m * width (w .n)) (omega (arith, w .count)))
     (at-all-below (w .q) (w .coefficients) (w .elements))))
 
+-- its first three bytes are q, n and m
+pub q-is : (b : List ℕ) (w : WellFormedSystem b) → qOf b ≡ w .q
+q-is b w = ap (λ (l : List ℕ). l ! 0) (w .laid-out)
+
+pub n-is : (b : List ℕ) (w : WellFormedSystem b) → nOf b ≡ w .n
+n-is b w = ap (λ (l : List ℕ). l ! 1) (w .laid-out)
+
+pub m-is : (b : List ℕ) (w : WellFormedSystem b) → mOf b ≡ w .m
+m-is b w = ap (λ (l : List ℕ). l ! 2) (w .laid-out)
+
 -- no refusal of a system has a number above 3
 pub system-most : (b : List ℕ) (most : ℕ) → T (leb 3 most) → systemRefusal b ≤ most
 unfolding systemRefusal

@@ -10,7 +10,7 @@ use Rattle.slices.specs.Slices.{_!_}
 use Rattle.slices.proofs.Parts.{part-at, length-part}
 use Rattle.field.specs.Ops.{ops}
 use Rattle.field.specs.Vector.{sum, vector}
-use Rattle.field.proofs.Fields.{field}
+use Rattle.field.proofs.Fields.{ring}
 use Rattle.field.proofs.Sums.{sum-cong}
 use Rattle.field.proofs.Vectors.{vector-start, vector-step, vector-end}
 use Rattle.system.specs.System.{qOf, nOf, mOf, opsOf, width}
@@ -69,7 +69,7 @@ row-product : (q : ℕ) (b row : List ℕ) (at end w start r : ℕ) →
     r ≡ sum (ops q) w (λ k. (ops q) .mul (b ! (start + k)) (row ! k))
 row-product q b row at end w start r e len part first =
     (rw len at e) ∙
-    sum-cong (ops q) (field q) w _ _ (λ k h. ap (λ (c : ℕ). (ops q) .mul c (row ! k)) (part-at b at end k (omega arith) ∙ ap (λ (n : ℕ). b ! (n + k)) first))
+    sum-cong (ops q) (ring q) w _ _ (λ k h. ap (λ (c : ℕ). (ops q) .mul c (row ! k)) (part-at b at end k (omega arith) ∙ ap (λ (n : ℕ). b ! (n + k)) first))
 
 pub products-spec : {M : Type 1} → statement M
 unfolding system-of timesRow
