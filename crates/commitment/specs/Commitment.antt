@@ -12,6 +12,12 @@ prefix d k = d .scheme ∷ k ∷ []
 unfoldable pub hashedString : Domain → ℕ → List ℕ → List ℕ → List ℕ
 hashedString d k ρ vectors = prefix d k ++ (ρ ++ vectors)
 
+-- "the vectors in order": one behind the other
+unfoldable pub inOrder : List (List ℕ) → List ℕ
+inOrder [] = []
+inOrder (v ∷ []) = v
+inOrder (v ∷ w ∷ vs) = v ++ inOrder (w ∷ vs)
+
 -- "Com(k, ρ, vectors) is SHA-256 of" that string
 unfoldable pub Com : Domain → ℕ → List ℕ → List ℕ → List ℕ
 Com d k ρ vectors = sha256 (hashedString d k ρ vectors)

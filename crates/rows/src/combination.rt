@@ -31,10 +31,10 @@ fn blend_rows<'a>(q: u8, a: u8, x: &'a [u8], b: u8, y: &'a [u8], out: &mut [u8])
     requires { ⌜ (length (now out) ≤ length (now x)) × (length (now out) ≤ length (now y)) ⌝ }
     ensures { λ _. ⌜ now (out .exit) ≡ tabulate (length (now (out .entry))) (λ i. (ops q) .add ((ops q) .mul a (now (x .entry) ! i)) ((ops q) .mul b (now (y .entry) ! i))) ⌝ }
 {
-    let mut i = 0;
-    while i < out.len() {
-        out[i] = blend(q, a, x[i], b, y[i]);
-        i += 1;
+    let mut place = 0;
+    while place < out.len() {
+        out[place] = blend(q, a, x[place], b, y[place]);
+        place += 1;
     }
 }
 

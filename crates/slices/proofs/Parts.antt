@@ -4,7 +4,7 @@ use mathlib.Core.Path.{_≡_, refl, sym, ap, ap₂, _∙_}
 use mathlib.Core.List.{List, [], _++_, append-nil, append-assoc}
 use native.Mathlib.Omega.{arith}
 use lib.ListN.{length, take, drop, length-append, length-drop, drop-of-length-le, List·getD-append}
-use lib.Seq.{length-take-le, take-at, drop-at, take-all, take-nil, take-length, drop-length, drop-drop, getD-take, getD-drop, getD-append-add}
+use lib.Seq.{length-take-le, take-append-seam, drop-append-seam, take-at, drop-at, take-all, take-nil, take-length, drop-length, drop-drop, getD-take, getD-drop, getD-append-add}
 use borrow.Rule.Slice.PartMut.{putMid, postOf, post-is}
 use Rattle.slices.specs.Slices.{_!_, placed}
 
@@ -27,6 +27,13 @@ part-rest l place k j hk hj = take-all k (drop place l) (short k hk) ∙ sym (ta
   where
     short : (i : ℕ) → length l ≤ place + i → length (drop place l) ≤ i
     short i h = rw (length-drop place l) (omega arith)
+
+-- two lists of equal length with something behind each
+pub append-split : (p q s t : List ℕ) → length p ≡ length q → p ++ s ≡ q ++ t → (p ≡ q) × (s ≡ t)
+append-split p q s t long e = (
+  sym (take-append-seam p s) ∙ ap₂ (λ (n : ℕ) (l : List ℕ). take n l) long e ∙ take-append-seam q t,
+  sym (drop-append-seam p s) ∙ ap₂ (λ (n : ℕ) (l : List ℕ). drop n l) long e ∙ drop-append-seam q t,
+)
 
 -- ---- a list with a part of it replaced
 

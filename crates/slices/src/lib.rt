@@ -40,12 +40,12 @@ pub fn bytes32(s: &[u8], at: usize) -> [u8; 32]
 pub fn same32(a: [u8; 32], b: [u8; 32]) -> bool
     ensures { λ r. ⌜ r ≡ same a b ⌝ }
 {
-    let mut i = 0;
-    while i < 32 {
-        if a[i] != b[i] {
+    let mut place = 0;
+    while place < 32 {
+        if a[place] != b[place] {
             return false;
         }
-        i += 1;
+        place += 1;
     }
     true
 }

@@ -1,4 +1,4 @@
--- The loop's invariant: the lists agree at every place before i. Assumes nothing.
+-- The loop's invariant: the lists agree before the place. Assumes nothing.
 use Prim.Native.Nat.{ℕ, _-_, _≤_, _<_}
 use mathlib.Core.Path.{_≡_, sym}
 use native.Mathlib.Omega.{arith}
@@ -10,10 +10,10 @@ use Rattle.slices.proofs.same32.Statement.{statement}
 use Rattle.slices.proofs.same32.Tie as tie
 
 abbrev Inv-loop : tie.InvT-loop
-Inv-loop a b i₀ i = (i ≤ 32) × ((k : ℕ) → k < i → a ! k ≡ b ! k)
+Inv-loop a b place₀ place = (place ≤ 32) × ((k : ℕ) → k < place → a ! k ≡ b ! k)
 
 abbrev μ-loop : tie.MeasureT-loop
-μ-loop a b i₀ i = 32 - i
+μ-loop a b place₀ place = 32 - place
 
 pub same32-spec : {M : Type 1} → statement M
 same32-spec =
@@ -24,7 +24,7 @@ same32-spec =
     (λ c. (omega arith, below-none _))
     (λ c. omega arith)
     (λ c. omega arith)
-    (λ c. sym (same-differs _ _ (c .before .before .loop .i) (c .if1 .taken)))
+    (λ c. sym (same-differs _ _ (c .before .before .loop .place) (c .if1 .taken)))
     (λ c. omega arith)
     (λ c. omega arith)
     (λ c. (omega arith, below-more _ _ (c .before .before .loop .inv .1) (c .if1 .left)))

@@ -1,4 +1,4 @@
--- The loop's invariant: the first i places are filled, the others are as they were. Assumes nothing.
+-- The loop's invariant: the places before `place` are filled, the others are as they were. Assumes nothing.
 use Prim.Native.Nat.{_≤_, _-_}
 use mathlib.Core.Path.{_≡_, refl}
 use mathlib.Core.List.{_++_}
@@ -12,12 +12,12 @@ use Rattle.rows.proofs.combination.blend_rows.Statement.{statement}
 use Rattle.rows.proofs.combination.blend_rows.Tie as tie
 
 abbrev Inv-loop : tie.InvT-loop
-Inv-loop q a x b y out₀ i₀ out i =
-    (i ≤ length out₀) × (length out ≡ length out₀) ×
-    (out ≡ tabulate i (λ k. (ops q) .add ((ops q) .mul a (x ! k)) ((ops q) .mul b (y ! k))) ++ drop i out₀)
+Inv-loop q a x b y out₀ place₀ out place =
+    (out ≡ tabulate place (λ k. (ops q) .add ((ops q) .mul a (x ! k)) ((ops q) .mul b (y ! k))) ++ drop place out₀) ×
+    (place ≤ length out₀) × (length out ≡ length out₀)
 
 abbrev μ-loop : tie.MeasureT-loop
-μ-loop q a x b y out₀ i₀ out i = length out₀ - i
+μ-loop q a x b y out₀ place₀ out place = length out₀ - place
 
 pub blend-rows-spec : {M : Type 1} → statement M
 blend-rows-spec =
@@ -25,7 +25,7 @@ blend-rows-spec =
     (tie.spec
     Inv-loop
     μ-loop
-    (λ c. (omega arith, refl, fill-start _ _))
+    (λ c. (fill-start _ _, omega arith, refl))
     (λ c. omega arith)
     (λ c. omega arith)
     (λ c κs. search needs)
@@ -34,6 +34,6 @@ blend-rows-spec =
     (λ c. omega arith)
     (λ c.
     let at = c .before .before .before .before .loop in
-    (omega arith, simp length-set (at .inv .1), fill-step _ _ _ (at .i) _ (at .inv .2) (omega arith) (c .blend .ensures)))
-    (λ c. c .before .loop .inv .1)
-    (λ c. fill-end _ _ _ (c .before .loop .i) (c .before .loop .inv .2) (omega arith)))
+    (fill-step _ _ _ (at .place) _ (at .inv .0) (omega arith) (c .blend .ensures), omega arith, simp length-set (at .inv .2)))
+    (λ c. c .before .loop .inv .2)
+    (λ c. fill-end _ _ _ (c .before .loop .place) (c .before .loop .inv .0) (omega arith)))
