@@ -4,7 +4,7 @@ use mathlib.Core.Path.{_≡_, ap, _∙_}
 use mathlib.Core.List.{List}
 use native.Mathlib.Omega.{arith}
 use Rattle.record_form.specs.declared.layout.Header.{Header}
-use Rattle.record.specs.Reader.{headerIn}
+use Rattle.record_form.specs.Record.{headerIn}
 use Rattle.transcript.specs.Transcript.{firstWhere}
 use Rattle.transcript.proofs.Search.{where-start, where-step, where-here, where-end}
 use Rattle.full_set.specs.FullSet.{fullSet, firstFull}
