@@ -1,13 +1,21 @@
 -- The rounds of a record, by the messages with which report and audit judge them: those that were written, and no others. Assumes nothing.
-use Prim.Native.Nat.{ℕ, _<_}
+use Prim.Native.Nat.{ℕ, _+_, _<_}
 use mathlib.Core.Path.{_≡_, refl, ap, _∙_}
-use mathlib.Core.List.{List}
+use mathlib.Core.List.{List, _∷_}
+use lib.ListN.{length}
+use Rattle.slices.specs.Slices.{_!_}
+use Rattle.scheme.specs.Scheme as S
+use Rattle.system.proofs.SystemLayout.{Sizes}
+use Rattle.exchange.specs.Messages.{commitmentsIn, middleIn, replyThreeIn, replyFiveIn}
+use Rattle.exchange.specs.Messages.{threeCommitments, fiveCommitments, replyThreeBytes, middleBytes, replyFiveBytes}
+use Rattle.exchange.proofs.Parts.{three-commitments-are, five-commitments-are, middle-is, reply-three-is, reply-five-is}
 use Rattle.record_form.specs.declared.layout.Header.{Header}
 use Rattle.record_form.specs.Record.{Fields, layoutOf, written, WellFormedRecord, headerIn, fieldsIn}
-use Rattle.record_form.specs.Rounds.{Round, fieldsOfRounds, ValidRounds, roundOf}
+use Rattle.record_form.specs.Rounds.{Round, fieldsOfRounds, ValidRound, ValidRounds, roundOf}
+use Rattle.record_form.proofs.ValidForm.{values}
 use Rattle.record_form.proofs.Rounds.{round-of, rounds-valid, fields-of, valid-rounds}
 use Rattle.record.proofs.RecordLayout.{fields-written, valid-fields, written-fields, not-refused}
-use Rattle.transcript.specs.Transcript.{roundCommitments, roundExchange, roundChallenge, roundIn}
+use Rattle.transcript.specs.Transcript.{roundCommitments, roundExchange, roundMiddle, roundChallenge, roundReply, roundIn}
 
 -- a round's messages are those that stand in the record's fields
 in-fields : (b : List ℕ) (r : ℕ) → roundIn b r ≡ roundOf (fieldsIn b) r
@@ -32,3 +40,55 @@ rounds-read b w =
     let none = not-refused b w in
     let valid = valid-fields b none in
     (valid-rounds (fieldsIn b) valid, ap written (fields-of (fieldsIn b) valid) ∙ written-fields b none)
+
+-- ---- what the messages are made of, as the check reads them
+
+three-lengths : (scheme n m : ℕ) → scheme ≡ 3 →
+    (S.commitmentsLength scheme ≡ 96) × (S.middleLength scheme n m ≡ 0) × (S.replyLength scheme n m ≡ n + n + m + 64)
+unfolding S.commitmentsLength S.middleLength S.replyLength S.vectorsLength S.rhosLength
+three-lengths scheme n m is = (simp is, simp is, simp is)
+
+five-lengths : (scheme n m : ℕ) → scheme ≡ 5 →
+    (S.commitmentsLength scheme ≡ 64) × (S.middleLength scheme n m ≡ 1 + n + m) × (S.replyLength scheme n m ≡ n + 32)
+unfolding S.commitmentsLength S.middleLength S.replyLength S.vectorsLength S.rhosLength
+five-lengths scheme n m is = (simp is, simp is, simp is)
+
+module _ (b : List ℕ) (w : WellFormedRecord b) (r : ℕ) (below : r < headerIn b .rounds) where
+  abbrev n : ℕ
+  n = headerIn b .n
+
+  abbrev m : ℕ
+  m = headerIn b .m
+
+  sizes-of : Sizes (headerIn b .q) n m
+  sizes-of = values (headerIn b) (rounds-read b w .0 .header-values) .sizes-value
+
+  valid-of : ValidRound (headerIn b) (roundIn b r)
+  valid-of = rounds-read b w .0 .each-round r below
+
+  -- three passes: c0, c1, c2; nothing before the challenge; three vectors and two ρ
+  pub three-parts : headerIn b .scheme ≡ 3 →
+      (threeCommitments (commitmentsIn (roundCommitments b r)) ≡ roundCommitments b r) × (length (roundMiddle b r) ≡ 0) ×
+      (replyThreeBytes n m (replyThreeIn n m (roundReply b r)) ≡ roundReply b r)
+  unfolding roundIn
+  three-parts is =
+      let long = three-lengths (headerIn b .scheme) n m is in
+      let v = valid-of in (
+        three-commitments-are (roundCommitments b r) (v .commitments-length ∙ long .0),
+        v .middle-length ∙ long .1,
+        reply-three-is n m (sizes-of .n-high) (sizes-of .m-high) (roundReply b r) (v .reply-length ∙ long .2),
+      )
+
+  -- five passes: c0, c1; α, t1, e1; a vector and its ρ
+  pub five-parts : headerIn b .scheme ≡ 5 →
+      (fiveCommitments (commitmentsIn (roundCommitments b r)) ≡ roundCommitments b r) ×
+      ((roundMiddle b r ! 0) ∷ middleBytes n m (middleIn n m (roundMiddle b r)) ≡ roundMiddle b r) ×
+      (replyFiveBytes n (replyFiveIn n (roundReply b r)) ≡ roundReply b r)
+  unfolding roundIn
+  five-parts is =
+      let long = five-lengths (headerIn b .scheme) n m is in
+      let v = valid-of in (
+        five-commitments-are (roundCommitments b r) (v .commitments-length ∙ long .0),
+        middle-is n m (sizes-of .n-high) (sizes-of .m-high) (roundMiddle b r) (v .middle-length ∙ long .1),
+        reply-five-is n m (sizes-of .n-high) (sizes-of .m-high) (roundReply b r) (v .reply-length ∙ long .2),
+      )
