@@ -4,9 +4,10 @@ use mathlib.Core.Path.{_≡_, refl, ap, _∙_}
 use mathlib.Core.List.{List, _∷_}
 use lib.ListN.{length}
 use Rattle.slices.specs.Slices.{_!_}
+use Rattle.field.specs.Vector.{held}
 use Rattle.scheme.specs.Scheme as S
 use Rattle.system.proofs.SystemLayout.{Sizes}
-use Rattle.exchange.specs.Messages.{commitmentsIn, middleIn, replyThreeIn, replyFiveIn}
+use Rattle.exchange.specs.Messages.{accepts, commitmentsIn, middleIn, replyThreeIn, replyFiveIn}
 use Rattle.exchange.specs.Messages.{threeCommitments, fiveCommitments, replyThreeBytes, middleBytes, replyFiveBytes}
 use Rattle.exchange.proofs.Parts.{three-commitments-are, five-commitments-are, middle-is, reply-three-is, reply-five-is}
 use Rattle.record_form.specs.declared.layout.Header.{Header}
@@ -14,8 +15,8 @@ use Rattle.record_form.specs.Record.{Fields, layoutOf, written, WellFormedRecor
 use Rattle.record_form.specs.Rounds.{Round, fieldsOfRounds, ValidRound, ValidRounds, roundOf}
 use Rattle.record_form.proofs.ValidForm.{values}
 use Rattle.record_form.proofs.Rounds.{round-of, rounds-valid, fields-of, valid-rounds}
-use Rattle.record.proofs.RecordLayout.{fields-written, valid-fields, written-fields, not-refused}
-use Rattle.transcript.specs.Transcript.{roundCommitments, roundExchange, roundMiddle, roundChallenge, roundReply, roundIn}
+use Rattle.record.proofs.RecordLayout.{header-written, fields-written, valid-fields, written-fields, not-refused}
+use Rattle.transcript.specs.Transcript.{keyVector, roundCommitments, roundExchange, roundMiddle, roundChallenge, roundReply, roundIn, acceptedRound}
 
 -- a round's messages are those that stand in the record's fields
 in-fields : (b : List ℕ) (r : ℕ) → roundIn b r ≡ roundOf (fieldsIn b) r
@@ -31,6 +32,20 @@ rounds-written h key round v =
       record { fields = f; valid = valid; laid-out = refl },
       λ r below. in-fields (written f) r ∙ ap (λ (g : Fields). roundOf g r) (fields-written f valid) ∙ round-of h key round v r below,
     )
+
+-- so a round of such a record is judged by the messages that were written
+pub judged-as-written : (system : List ℕ) (h : Header) (key : List ℕ) (round : ℕ → Round) → ValidRounds h key round → (r : ℕ) → r < h .rounds →
+    acceptedRound system (written (fieldsOfRounds h key round)) r ≡
+    accepts system (h .scheme) (held key) (round r .commitments) (round r .middle) (round r .challenge) (round r .reply)
+unfolding acceptedRound keyVector roundIn fieldsOfRounds
+judged-as-written system h key round v r below =
+    let f = fieldsOfRounds h key round in
+    of-same _ _ _ (header-written f) (ap (λ (g : Fields). g .key) (fields-written f (rounds-valid h key round v))) (rounds-written h key round v .1 r below)
+  where
+    of-same : (k : Header) (l : List ℕ) (x : Round) → k ≡ h → l ≡ key → x ≡ round r →
+        accepts system (k .scheme) (held l) (x .commitments) (x .middle) (x .challenge) (x .reply) ≡
+        accepts system (h .scheme) (held key) (round r .commitments) (round r .middle) (round r .challenge) (round r .reply)
+    of-same k l x hk hl hx = rw (hk, hl, hx)
 
 -- and every well-formed record is the record of its rounds, each of them valid
 pub rounds-read : (b : List ℕ) → WellFormedRecord b →
