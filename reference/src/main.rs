@@ -1,5 +1,5 @@
-//! `reference make DIR` writes into DIR what the programs read, and what they must print; `reference
-//! runs DIR` the files of further runs, which are too large to store.
+//! `reference make DIR` writes into DIR what the programs read, and what they must print;
+//! `reference runs DIR` the files of further runs, which are not stored.
 
 use reference::vectors::{self, Stored};
 use std::path::Path;

@@ -51,8 +51,8 @@ fn bytes<'a>(files: &'a [Stored], path: &str) -> &'a [u8] {
     &file.expect("a file of a run").bytes
 }
 
-/// The largest files have document 01's lengths, and each of the 255 rounds is accepted: with the last byte of the last
-/// record changed, round 255 of record 3 is rejected.
+/// The largest files have document 01's lengths, and each of the 255 rounds is accepted: with the
+/// last byte of the last record changed, round 255 of record 3 is rejected.
 #[test]
 fn largest_files() {
     let audit = edges::audit();
@@ -74,7 +74,8 @@ fn largest_files() {
     assert_eq!(audit_three(system, a, b, &changed), rejected);
 }
 
-/// A file that is a byte too short or too long is refused in each place, and one that is too large prints nothing.
+/// A file that is a byte too short or too long is refused in each place, and with one that is too
+/// large nothing is printed.
 #[test]
 fn lengths() {
     let runs = edges::audit().text("audit");

@@ -1,4 +1,5 @@
-//! Runs of the programs on files at the edges of what they read. The files are made for the runs and not stored.
+//! Runs of the programs on files at the edges of what they read. The files are made for the runs
+//! and not stored.
 
 use super::audited::{Audit, Cards};
 use super::instance::Shape;
@@ -7,6 +8,7 @@ use super::session::Session;
 use super::Stored;
 use crate::entries::report;
 use crate::random::Generator;
+use crate::report::MOST_OF_INPUT;
 use crate::scheme::{Scheme, SCHEMES};
 use crate::system::MOST;
 
@@ -17,7 +19,8 @@ pub struct Runs {
 }
 
 impl Runs {
-    /// A line for each run, which starts with `$`, the program and the arguments; what is printed follows.
+    /// A line for each run, which starts with `$`, the program and the arguments; what is printed
+    /// follows.
     pub fn text(&self, program: &str) -> String {
         let runs = self.runs.iter();
         runs.map(|(run, printed)| format!("$ {program} {run}\n{printed}"))
@@ -58,7 +61,8 @@ fn longer(bytes: &[u8], length: usize) -> Vec<u8> {
     bytes
 }
 
-/// The audit: one file of a good run a byte shorter or longer, in each place; and the largest files.
+/// The audit: one file of a good run a byte shorter or longer, in each place; and the largest
+/// files.
 pub fn audit() -> Runs {
     let mut audit = spoiled_lengths();
     let largest = largest();
@@ -93,8 +97,9 @@ fn spoiled_lengths() -> Runs {
     Runs { files, runs }
 }
 
-/// The largest system, with records of both schemes of as many rounds as there can be, all of them the same; and a system and
-/// a record that are a byte longer, with which nothing is printed, whichever file they stand for.
+/// The largest system, with records of both schemes of as many rounds as there can be, all of them
+/// the same; and a system and a record that are a byte longer, with which nothing is printed,
+/// whichever file they stand for.
 fn largest() -> Runs {
     let mut random = Generator::from_seed(150);
     let shape = Shape::new(251, MOST, MOST);
@@ -139,12 +144,15 @@ fn repeated(session: &Session) -> Session {
     session
 }
 
-/// The report: an honest session whose input has 65,536 bytes, the most that it takes, and longer inputs that begin so.
+/// The report: an honest session whose input has as many bytes as it takes, 65,536, and longer
+/// inputs that begin so.
 pub fn reports() -> Runs {
     let mut random = Generator::from_seed(151);
     let shape = Shape::new(251, 37, 87);
     let longest = Session::honest(&mut random, Scheme::FivePass, shape, 4).input();
-    let inputs = [65_536, 65_537, 70_000].map(|length| longer(&longest, length));
+    assert_eq!(longest.len(), MOST_OF_INPUT, "the longest input");
+    let lengths = [MOST_OF_INPUT, MOST_OF_INPUT + 1, 70_000];
+    let inputs = lengths.map(|length| longer(&longest, length));
     let runs = inputs
         .iter()
         .map(|input| (input.len().to_string(), report(input)));
