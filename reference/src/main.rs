@@ -1,6 +1,7 @@
-//! `reference make DIR` writes into DIR what the programs read, and what they must print.
+//! `reference make DIR` writes into DIR what the programs read, and what they must print;
+//! `reference runs DIR` the files of further runs, which are not stored.
 
-use reference::vectors;
+use reference::vectors::{self, Stored};
 use std::path::Path;
 use std::process::ExitCode;
 
@@ -9,10 +10,12 @@ fn main() -> ExitCode {
     let [command, folder] = words.as_slice() else {
         return usage();
     };
-    if command != "make" {
-        return usage();
-    }
-    match make(Path::new(folder)) {
+    let files = match command.as_str() {
+        "make" => vectors::stored(),
+        "runs" => vectors::run_files(),
+        _ => return usage(),
+    };
+    match write(Path::new(folder), files) {
         Ok(()) => ExitCode::SUCCESS,
         Err(error) => {
             eprintln!("reference: {folder}: {error}");
@@ -22,18 +25,18 @@ fn main() -> ExitCode {
 }
 
 fn usage() -> ExitCode {
-    eprintln!("usage: reference make DIR");
+    eprintln!("usage: reference make|runs DIR");
     ExitCode::from(2)
 }
 
-/// Writes every stored file, as DIR/PROGRAM/stdin and DIR/PROGRAM/stdout for each program.
-fn make(folder: &Path) -> std::io::Result<()> {
-    for stored in vectors::stored() {
-        let file = folder.join(stored.path);
-        if let Some(parent) = file.parent() {
+/// Writes each file below the folder.
+fn write(folder: &Path, files: Vec<Stored>) -> std::io::Result<()> {
+    for file in files {
+        let path = folder.join(file.path);
+        if let Some(parent) = path.parent() {
             std::fs::create_dir_all(parent)?;
         }
-        std::fs::write(file, stored.bytes)?;
+        std::fs::write(path, file.bytes)?;
     }
     Ok(())
 }

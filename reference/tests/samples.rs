@@ -1,7 +1,8 @@
-//! The audit program's text, and the samples stored for it.
+//! The audit program's text, the samples stored for it, and the files of the runs at the edges.
 
-use reference::audit::Finding;
+use reference::audit::{audit_three, Finding};
 use reference::vectors::samples::{stored, text};
+use reference::vectors::{edges, Stored};
 
 #[test]
 fn texts() {
@@ -42,4 +43,59 @@ fn runs() {
     ] {
         assert!(runs.contains(run), "{run}");
     }
+}
+
+/// The bytes of one of the files that runs are on.
+fn bytes<'a>(files: &'a [Stored], path: &str) -> &'a [u8] {
+    let file = files.iter().find(|file| file.path == path);
+    &file.expect("a file of a run").bytes
+}
+
+/// The largest files have document 01's lengths, and each of the 255 rounds is accepted: with the
+/// last byte of the last record changed, round 255 of record 3 is rejected.
+#[test]
+fn largest_files() {
+    let audit = edges::audit();
+    let file = |path| bytes(&audit.files, path);
+    assert_eq!(file("largest/system").len(), 456_195);
+    for record in ["largest/three/a", "largest/three/b", "largest/three/c"] {
+        assert_eq!(file(record).len(), 30 + 96 + 255 * (96 + 1 + 3 * 96 + 64));
+    }
+    assert_eq!(file("over/system").len(), 456_196);
+    assert_eq!(file("over/record").len(), 114_622);
+    let mut changed = file("largest/three/c").to_vec();
+    *changed.last_mut().expect("a record") ^= 1;
+    let [system, a, b] = ["largest/system", "largest/three/a", "largest/three/b"].map(file);
+    let rejected = Finding::Refused {
+        number: 8,
+        record: 3,
+        round: 255,
+    };
+    assert_eq!(audit_three(system, a, b, &changed), rejected);
+}
+
+/// A file that is a byte too short or too long is refused in each place, and with one that is too
+/// large nothing is printed.
+#[test]
+fn lengths() {
+    let runs = edges::audit().text("audit");
+    for run in [
+        "$ audit long/system three/a three/b three/c\nrefused 2\n",
+        "$ audit system three/a long/three/b three/c\nrefused 6\n",
+        "$ audit system five/a five/b five/c short/five/d\nrefused 6\n",
+        "$ audit over/system largest/three/a largest/three/b largest/three/c\n$ ",
+    ] {
+        assert!(runs.contains(run), "{run}");
+    }
+}
+
+/// The longest input is an honest session's; one byte more is refused.
+#[test]
+fn longest_input() {
+    let reports = edges::reports();
+    let lengths: Vec<usize> = reports.files.iter().map(|file| file.bytes.len()).collect();
+    assert_eq!(lengths, [65_536, 65_537, 70_000]);
+    let printed: Vec<&str> = reports.runs.iter().map(|(_, text)| &text[..]).collect();
+    assert!(printed[0].ends_with("verdict accept 4 of 4\n"));
+    assert_eq!(printed[1..], ["refused 2\n", "refused 2\n"]);
 }

@@ -10,19 +10,14 @@ use crate::file::Loaded;
 use crate::file::load;
 use crate::file::record_buffer;
 use crate::file::system_buffer;
-use audit_lines::audit_text;
-use auditing::audit_five;
-use auditing::audit_three;
+use audit_lines::Lengths;
+use audit_lines::five_text;
+use audit_lines::three_text;
 use libc::STDERR_FILENO;
 use libc::STDOUT_FILENO;
-use slices::byte_at;
 use slices::part;
 ghost use mathlib.Core.Path.{_≡_};
 ghost use lib.ListN.{length};
-ghost use Rattle.slices.specs.Slices.{placed};
-ghost use Rattle.system.specs.System.{nOf};
-ghost use Rattle.auditing.specs.Audit.{auditThree, auditFive};
-ghost use Rattle.audit_lines.specs.AuditLines.{auditText};
 
 // How many words there are with a system and three or four records, the program's name among them.
 const WITH_THREE: usize = 5;
@@ -57,33 +52,6 @@ fn usage() -> usize {
     0
 }
 
-// The text of an audit of scheme 3, and its length.
-fn three_text<'a>(
-    system: &'a [u8],
-    a: &'a [u8],
-    b: &'a [u8],
-    c: &'a [u8],
-    text: &mut [u8; 2048],
-) -> usize
-    ensures { λ r. ⌜ (now (text .exit) ≡ placed (now (text .entry)) 0 (auditText (nOf (now (system .entry))) (auditThree (now (system .entry)) (now (a .entry)) (now (b .entry)) (now (c .entry))))) × (r ≡ length (auditText (nOf (now (system .entry))) (auditThree (now (system .entry)) (now (a .entry)) (now (b .entry)) (now (c .entry))))) ⌝ }
-{
-    audit_text(audit_three(system, a, b, c), byte_at(system, 1), text)
-}
-
-// The same of scheme 5.
-fn five_text<'a>(
-    system: &'a [u8],
-    a: &'a [u8],
-    b: &'a [u8],
-    c: &'a [u8],
-    d: &'a [u8],
-    text: &mut [u8; 2048],
-) -> usize
-    ensures { λ r. ⌜ (now (text .exit) ≡ placed (now (text .entry)) 0 (auditText (nOf (now (system .entry))) (auditFive (now (system .entry)) (now (a .entry)) (now (b .entry)) (now (c .entry)) (now (d .entry))))) × (r ≡ length (auditText (nOf (now (system .entry))) (auditFive (now (system .entry)) (now (a .entry)) (now (b .entry)) (now (c .entry)) (now (d .entry))))) ⌝ }
-{
-    audit_text(audit_five(system, a, b, c, d), byte_at(system, 1), text)
-}
-
 // Reads a system and three or four records, as many as there are words for, and audits them.
 fn audited_files(words: usize, text: &mut [u8; 2048]) -> usize {
     let mut system = system_buffer();
@@ -102,14 +70,16 @@ fn audited_files(words: usize, text: &mut [u8; 2048]) -> usize {
     let Loaded::Whole(c_length) = load(4, &mut c) else {
         return 0;
     };
-    let system = part(&system, 0, system_length);
-    let a = part(&a, 0, a_length);
-    let b = part(&b, 0, b_length);
-    let c = part(&c, 0, c_length);
+    let lengths = Lengths {
+        system: system_length,
+        a: a_length,
+        b: b_length,
+        c: c_length,
+    };
     if words == WITH_THREE {
-        three_text(system, a, b, c, text)
+        three_text(&system, &a, &b, &c, lengths, text)
     } else {
-        with_fourth(system, a, b, c, text)
+        with_fourth(&system, &a, &b, &c, lengths, text)
     }
 }
 
@@ -119,11 +89,12 @@ fn with_fourth<'a>(
     a: &'a [u8],
     b: &'a [u8],
     c: &'a [u8],
+    lengths: Lengths,
     text: &mut [u8; 2048],
 ) -> usize {
     let mut d = record_buffer();
     let Loaded::Whole(d_length) = load(5, &mut d) else {
         return 0;
     };
-    five_text(system, a, b, c, part(&d, 0, d_length), text)
+    five_text(system, a, b, c, &d, lengths, d_length, text)
 }

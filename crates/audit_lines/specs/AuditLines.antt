@@ -7,7 +7,9 @@ use lib.ListN.{take}
 use Rattle.hex.specs.Hex.{hex}
 use Rattle.text.specs.Text.{numbered, lineFeed}
 use Rattle.report_lines.specs.ReportLines.{roundWord, refusedLine}
+use Rattle.system.specs.System.{nOf}
 use Rattle.auditing.specs.Outcome.{Outcome, secret, clash, refused}
+use Rattle.auditing.specs.Audit.{auditThree, auditFive}
 
 -- ---- words
 
@@ -58,3 +60,11 @@ unfoldable pub auditText : ℕ → Outcome → List ℕ
 auditText n (secret s) = hexLine secretWord (take n s)
 auditText n (clash k x y) = clashLines k x y
 auditText n (refused number whose round) = refusalLine number whose round
+
+-- the text of an audit of scheme 3
+unfoldable pub threeText : List ℕ → List ℕ → List ℕ → List ℕ → List ℕ
+threeText system a b c = auditText (nOf system) (auditThree system a b c)
+
+-- of scheme 5
+unfoldable pub fiveText : List ℕ → List ℕ → List ℕ → List ℕ → List ℕ → List ℕ
+fiveText system a b c d = auditText (nOf system) (auditFive system a b c d)

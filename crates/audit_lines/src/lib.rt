@@ -3,9 +3,12 @@
 // Nothing here refuses: whoever calls lends that buffer.
 use auditing::Audited;
 use auditing::Finding;
+use auditing::audit_five;
+use auditing::audit_three;
 use commitment::Text;
 use hex::append_hex;
 use report_lines::refused_line;
+use slices::byte_at;
 use slices::part;
 use text::append;
 use text::append_number;
@@ -15,7 +18,7 @@ ghost use Prim.Native.Nat.{_+_, _*_, _≤_};
 ghost use lib.ListN.{length, take};
 ghost use Rattle.slices.specs.Slices.{placed};
 ghost use Rattle.auditing.specs.Outcome.{outcomeOf};
-ghost use Rattle.audit_lines.specs.AuditLines.{hexLine, clashLines, rejectedLine, refusalLine, auditText};
+ghost use Rattle.audit_lines.specs.AuditLines.{hexLine, clashLines, rejectedLine, refusalLine, auditText, threeText, fiveText};
 
 // Puts a line of a word and bytes.
 fn hex_line(text: &mut [u8], at: usize, word: &[u8], s: &[u8]) -> usize
@@ -90,4 +93,52 @@ fn both_strings(text: &mut [u8], k: u8, first: Text, second: Text) -> usize
         part(&first_bytes, 0, first_length),
         part(&second_bytes, 0, second_length),
     )
+}
+
+// How many bytes of its buffer each file has.
+pub struct Lengths {
+    pub system: usize,
+    pub a: usize,
+    pub b: usize,
+    pub c: usize,
+}
+
+// The text of an audit of scheme 3, of files that lie at the front of buffers. Any lengths are taken: what there is of a file is
+// audited.
+pub fn three_text<'a>(
+    system: &'a [u8],
+    a: &'a [u8],
+    b: &'a [u8],
+    c: &'a [u8],
+    lengths: Lengths,
+    text: &mut [u8; 2048],
+) -> usize
+    ensures { λ r. ⌜ (now (text .exit) ≡ placed (now (text .entry)) 0 (threeText (take (lengths .system) (now (system .entry))) (take (lengths .a) (now (a .entry))) (take (lengths .b) (now (b .entry))) (take (lengths .c) (now (c .entry))))) × (r ≡ length (threeText (take (lengths .system) (now (system .entry))) (take (lengths .a) (now (a .entry))) (take (lengths .b) (now (b .entry))) (take (lengths .c) (now (c .entry))))) ⌝ }
+{
+    let system = part(system, 0, lengths.system);
+    let a = part(a, 0, lengths.a);
+    let b = part(b, 0, lengths.b);
+    let c = part(c, 0, lengths.c);
+    audit_text(audit_three(system, a, b, c), byte_at(system, 1), text)
+}
+
+// The same of scheme 5.
+pub fn five_text<'a>(
+    system: &'a [u8],
+    a: &'a [u8],
+    b: &'a [u8],
+    c: &'a [u8],
+    d: &'a [u8],
+    lengths: Lengths,
+    d_length: usize,
+    text: &mut [u8; 2048],
+) -> usize
+    ensures { λ r. ⌜ (now (text .exit) ≡ placed (now (text .entry)) 0 (fiveText (take (lengths .system) (now (system .entry))) (take (lengths .a) (now (a .entry))) (take (lengths .b) (now (b .entry))) (take (lengths .c) (now (c .entry))) (take «d_length» (now (d .entry))))) × (r ≡ length (fiveText (take (lengths .system) (now (system .entry))) (take (lengths .a) (now (a .entry))) (take (lengths .b) (now (b .entry))) (take (lengths .c) (now (c .entry))) (take «d_length» (now (d .entry))))) ⌝ }
+{
+    let system = part(system, 0, lengths.system);
+    let a = part(a, 0, lengths.a);
+    let b = part(b, 0, lengths.b);
+    let c = part(c, 0, lengths.c);
+    let d = part(d, 0, d_length);
+    audit_text(audit_five(system, a, b, c, d), byte_at(system, 1), text)
 }

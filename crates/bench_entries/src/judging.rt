@@ -5,7 +5,7 @@ use transcript::judge_refusal;
 ghost use mathlib.Core.Path.{_≡_};
 ghost use Rattle.refusal.specs.Refusal.{kept};
 ghost use Rattle.system.specs.System.{systemRefusal};
-ghost use Rattle.record.specs.Reader.{headerIn};
+ghost use Rattle.record_form.specs.Record.{headerIn};
 ghost use Rattle.transcript.specs.Transcript.{judgeRefusal, acceptedCount};
 
 // How many rounds of a record are accepted.

@@ -13,7 +13,7 @@ use Rattle.slices.proofs.Booleans.{either}
 use Rattle.comparable.specs.Comparable.{frontRefusal, rejectionOf}
 use Rattle.full_set.specs.FullSet.{firstFull}
 use Rattle.clash.specs.Clash.{firstClash}
-use Rattle.record.specs.Reader.{headerIn}
+use Rattle.record_form.specs.Record.{headerIn}
 use Rattle.text.specs.Text.{numbered}
 use Rattle.report_lines.specs.ReportLines.{verdictStart, refusedWord, verdictLine, refusedLine}
 use Rattle.reporting.specs.Report.{systemPart, recordPart, reportRefusal, roundLines, judgedText, reportText}

@@ -7,7 +7,8 @@ use lib.ListN.{take}
 use Rattle.slices.specs.Slices.{same}
 use Rattle.refusal.specs.Refusal.{unless, _orElse_}
 use Rattle.system.specs.System.{systemRefusal}
-use Rattle.record.specs.Reader.{headerIn, fieldsIn, recordRefusal}
+use Rattle.record_form.specs.Record.{headerIn, fieldsIn}
+use Rattle.record.specs.Reader.{recordRefusal}
 use Rattle.transcript.specs.Transcript.{fitRefusal, acceptedRound, firstWhere}
 use Rattle.comparable.specs.declared.Rejection.{Rejection}
 

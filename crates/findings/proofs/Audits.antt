@@ -9,9 +9,10 @@ use lib.Dec.{eqb}
 use Rattle.slices.proofs.Booleans.{either}
 use Rattle.system.specs.System.{F, systemRefusal}
 use Rattle.system.proofs.SystemLayout.{accepted}
+use Rattle.scheme.specs.Scheme.{commitmentsLength}
 use Rattle.round.specs.ThreePass.{firstNumber, secondNumber}
 use Rattle.record_form.specs.declared.layout.Header.{Header}
-use Rattle.record.specs.Reader.{headerIn}
+use Rattle.record_form.specs.Record.{headerIn}
 use Rattle.transcript.specs.Transcript.{keyVector, roundChallenge}
 use Rattle.comparable.proofs.Front.{Front}
 use Rattle.openings.specs.Openings.{openingIn, secretOf}
@@ -118,7 +119,7 @@ module _ (system a b c : List ℕ) where
       (from-left .0, sym (left .is) ∙ ap (answering a b c r) (are .0), sym (right .is) ∙ ap (answering a b c r) (are .1))
 
   three-laws : Laws (threePass system a b c) b c c
-  unfolding threePass leftRecord rightRecord lowerChallenge higherChallenge firstNumber secondNumber pairs
+  unfolding threePass leftRecord rightRecord lowerChallenge higherChallenge firstNumber secondNumber pairs commitmentsLength
   three-laws =
       record {
         front-tells = λ k.
@@ -149,6 +150,7 @@ module _ (system a b c : List ℕ) where
         right-sound = λ s r k. answering-sound s r (higherChallenge k);
         left-opened = λ s r k full h. let o = other-two k in answering-opened s r k (lowerChallenge k) full h (o .low) (o .low-other);
         right-opened = λ s r k full h. let o = other-two k in answering-opened s r k (higherChallenge k) full h (o .high) (o .high-other);
+        numbers = λ k is. omega (arith, is);
         only-pair = only-three;
       }
     where
@@ -249,7 +251,7 @@ module _ (system a b c d : List ℕ) where
       (same-compared 5 system a b c d r 0 (same 0 (omega arith))) (same-compared 5 system a b c d r 1 (same 1 (omega arith)))
 
   five-laws : Laws (fivePass system a b c d) b c d
-  unfolding fivePass pairs
+  unfolding fivePass pairs commitmentsLength
   five-laws =
       record {
         front-tells = λ k.
@@ -269,6 +271,7 @@ module _ (system a b c d : List ℕ) where
         right-sound = λ s r k. right-sound-five (four-sound s) r k;
         left-opened = λ s r k full h. opens-by (s .good) _ r k (left-sound-five (four-sound s) r k) (left-asked r k full h) h;
         right-opened = λ s r k full h. opens-by (s .good) _ r k (right-sound-five (four-sound s) r k) (right-asked r k full h) h;
+        numbers = λ k is. omega (arith, is);
         only-pair = λ s r k full x y p. only-five r k (p .left) (p .right) (p .order);
       }
 

@@ -1,5 +1,5 @@
--- What is refused before the rounds are judged, against the records: nothing exactly where they are to be audited, and no number above 7. Assumes nothing.
-use Prim.Native.Nat.{ℕ, _≤_}
+-- What is refused before the rounds are judged, against the records: nothing exactly where they are to be audited. Assumes nothing.
+use Prim.Native.Nat.{ℕ}
 use mathlib.Core.Path.{_≡_, sym, ap, _∙_}
 use mathlib.Core.List.{List}
 use native.Mathlib.Omega.{arith}
@@ -8,17 +8,14 @@ use lib.Seq.{getD-take}
 use borrow.Author.Tests.{eq-eqb}
 use Rattle.slices.specs.Slices.{same}
 use Rattle.slices.proofs.Sameness.{same-true, same-by, same-refl}
-use Rattle.refusal.proofs.Refusals.{first-zero, later-zero, test-holds, equal-holds, both-zero, unless-holds, unless-most, orElse-most, firstOf-most}
+use Rattle.refusal.proofs.Refusals.{first-zero, later-zero, test-holds, equal-holds, both-zero, unless-holds}
 use Rattle.system.specs.System.{hasSizes}
-use Rattle.system.proofs.SystemLayout.{has-sizes, sizes-has, system-most}
+use Rattle.system.proofs.SystemLayout.{has-sizes, sizes-has}
 use Rattle.record_form.specs.declared.layout.Header.{Header}
-use Rattle.record_form.specs.declared.form.Check.the-variants.{FileOrder}
-use Rattle.record_form.specs.Record.{head, written, WellFormedRecord}
-use Rattle.record_form.specs.Form.{exchangeRefusal, exchangesRefusal}
-use Rattle.record.specs.Reader.{headerIn, fieldsIn, recordRefusal}
+use Rattle.record_form.specs.Record.{head, written, WellFormedRecord, headerIn, fieldsIn}
 use Rattle.record.proofs.RecordLayout.{well-formed, not-refused}
 use Rattle.transcript.specs.Transcript.{fitRefusal}
-use Rattle.comparable.specs.Comparable.{auditedRefusal, differenceRefusal, frontRefusal}
+use Rattle.comparable.specs.Comparable.{auditedRefusal, differenceRefusal}
 use Rattle.findings.specs.Findings.{Auditable}
 
 -- ---- the six bytes before the table are the header
@@ -81,46 +78,3 @@ unfolding differenceRefusal
 alike-itself a =
     both-zero _ _ (unless-holds _ 7 (same-refl (take 6 a)))
     (both-zero _ _ (unless-holds _ 7 (same-refl (fieldsIn a .key))) (unless-holds _ 7 (same-refl (fieldsIn a .commitments))))
-
--- ---- the numbers
-
-exchange-number : (h : Header) (x : List ℕ) → exchangeRefusal FileOrder h x ≤ 7
-unfolding exchangeRefusal
-exchange-number h x = orElse-most _ _ 7 (unless-most _ 3 7 tt) (orElse-most _ _ 7 (unless-most _ 4 7 tt) (unless-most _ 3 7 tt))
-
-exchanges-number : (h : Header) (exchanges : List ℕ) → exchangesRefusal FileOrder h exchanges ≤ 7
-unfolding exchangesRefusal
-exchanges-number h exchanges = firstOf-most (h .rounds) _ 7 (λ r. exchange-number h _)
-
-record-number : (b : List ℕ) → recordRefusal b ≤ 7
-unfolding recordRefusal
-record-number b =
-    orElse-most _ _ 7 (unless-most _ 6 7 tt)
-    (orElse-most _ _ 7 (unless-most _ 6 7 tt)
-    (orElse-most _ _ 7 (unless-most _ 1 7 tt)
-    (orElse-most _ _ 7 (unless-most _ 6 7 tt)
-    (orElse-most _ _ 7 (unless-most _ 6 7 tt)
-    (orElse-most _ _ 7 (unless-most _ 3 7 tt) (exchanges-number _ _))))))
-
-audited-number : (scheme : ℕ) (b : List ℕ) → auditedRefusal scheme b ≤ 7
-unfolding auditedRefusal
-audited-number scheme b = orElse-most _ _ 7 (record-number b) (unless-most _ 1 7 tt)
-
-fit-number : (system b : List ℕ) → fitRefusal system b ≤ 7
-unfolding fitRefusal
-fit-number system b = unless-most _ 7 7 tt
-
-difference-number : (a b : List ℕ) → differenceRefusal a b ≤ 7
-unfolding differenceRefusal
-difference-number a b = orElse-most _ _ 7 (unless-most _ 7 7 tt) (orElse-most _ _ 7 (unless-most _ 7 7 tt) (unless-most _ 7 7 tt))
-
-pub front-number : (scheme : ℕ) (system a b c d : List ℕ) → frontRefusal scheme system a b c d ≤ 7
-unfolding frontRefusal
-front-number scheme system a b c d =
-    orElse-most _ _ 7 (system-most system 7 tt)
-    (orElse-most _ _ 7 (audited-number scheme a)
-    (orElse-most _ _ 7 (audited-number scheme b)
-    (orElse-most _ _ 7 (audited-number scheme c)
-    (orElse-most _ _ 7 (audited-number scheme d)
-    (orElse-most _ _ 7 (fit-number system a)
-    (orElse-most _ _ 7 (difference-number a b) (orElse-most _ _ 7 (difference-number a c) (difference-number a d))))))))

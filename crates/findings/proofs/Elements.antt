@@ -19,8 +19,8 @@ use Rattle.protocol.specs.Rounds.{IsX, IsY, IsScalar}
 use Rattle.protocol.proofs.SystemMap.{is-vector}
 use Rattle.scheme.specs.Scheme.{middleLength, vectorsLength, rhosLength, replyLength}
 use Rattle.record_form.specs.declared.layout.Header.{Header}
-use Rattle.record_form.specs.Record.{Elements, ValidExchange, layoutOf, replyOf, vectorsOf}
-use Rattle.record.specs.Reader.{headerIn, fieldsIn, recordRefusal}
+use Rattle.record_form.specs.Record.{Elements, ValidExchange, layoutOf, replyOf, vectorsOf, headerIn, fieldsIn}
+use Rattle.record.specs.Reader.{recordRefusal}
 use Rattle.record.proofs.RecordLayout.{not-refused, valid-fields}
 use Rattle.transcript.specs.Transcript.{keyVector, roundExchange, roundMiddle, roundReply}
 use Rattle.openings.specs.Openings.{replyVector}

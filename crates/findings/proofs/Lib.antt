@@ -1,5 +1,6 @@
 -- The claim about audits; `Audits` has it for both schemes.
 pub mod Comparing
+pub mod Numbers
 pub mod Rejecting
 pub mod FullSets
 pub mod Strings

@@ -5,7 +5,7 @@ use mathlib.Core.Bool.{not}
 use mathlib.Core.List.{List, [], _∷_}
 use native.Mathlib.Omega.{arith}
 use borrow.Author.Tests.{not-true, not-false}
-use Rattle.record.specs.Reader.{headerIn}
+use Rattle.record_form.specs.Record.{headerIn}
 use Rattle.transcript.proofs.Search.{where-none, none-where, found-where}
 use Rattle.comparable.specs.declared.Rejection.{Rejection}
 use Rattle.comparable.specs.Comparable.{rejectedRound, rejectedIn, noRejection, laterRejection, rejectionOf}

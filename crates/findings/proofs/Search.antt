@@ -1,12 +1,11 @@
 -- The claim about an audit from the laws of its scheme, which are said here as well. Assumes nothing.
-use Prim.Native.Nat.{ℕ, zero, suc, _-_, _*_, _<_}
+use Prim.Native.Nat.{ℕ, zero, suc, _-_, _<_}
 use mathlib.Core.Path.{_≡_, refl, sym, ap, ap₂, subst, _∙_}
 use mathlib.Core.Bool.{true, false, false≢true, not}
 use mathlib.Core.Logic.{inl, inr}
 use mathlib.Core.List.{List, _∷_}
 use native.Mathlib.Omega.{arith}
 use borrow.Author.Tests.{not-true, not-false}
-use lib.ListN.{take, drop}
 use Rattle.slices.proofs.Sameness.{same-true, same-by}
 use Rattle.sha256.specs.Sha256.{sha256}
 use Rattle.system.specs.System.{F, systemRefusal}
@@ -15,9 +14,8 @@ use Rattle.protocol.specs.Rounds.{mapOf}
 use Rattle.protocol.proofs.Rounds.{quadratic-map}
 use Rattle.round.specs.Pieces.{commitment}
 use Rattle.exchange.specs.Messages.{commitmentsIn}
-use Rattle.scheme.specs.Scheme as S
 use Rattle.record_form.specs.declared.layout.Header.{Header}
-use Rattle.record.specs.Reader.{headerIn}
+use Rattle.record_form.specs.Record.{headerIn, commitmentsOf}
 use Rattle.transcript.specs.Transcript.{keyVector, roundCommitments}
 use Rattle.transcript.proofs.Search.{FirstIs, where-none, found-where}
 use Rattle.comparable.specs.declared.Rejection.{Rejection}
@@ -28,8 +26,8 @@ use Rattle.full_set.specs.FullSet.{answering, fullSet, firstFull}
 use Rattle.clash.specs.Clash.{leftRecord, rightRecord, leftOpening, rightOpening, samePair, pairs, firstClash}
 use Rattle.auditing.specs.Audit.{secretAt, clashAt, findingAt, searchOf, auditOf}
 use Rattle.auditing.proofs.Outcomes.{finding-secret, finding-clash, search-none, search-found, audit-refused, audit-rejected, audit-searched}
-use Rattle.findings.specs.Findings.{Auditable, AllAccepted, Each, Scheme, Due, RoundUsed, Compared, Agree, firstVector, Right, IsFinding, Claim}
-use Rattle.findings.proofs.Comparing.{front-number}
+use Rattle.findings.specs.Findings.{Auditable, AllAccepted, Each, Scheme, Due, RoundUsed, Compared, IsCommitment, AreCompared, Agree, firstVector, RightRefusal, Right, IsFinding, Claim}
+use Rattle.findings.proofs.Numbers.{nine, front-number}
 use Rattle.findings.proofs.Rejecting.{walk, all-accepted, none-rejected, first-rejected}
 use Rattle.findings.proofs.Strings.{Opened, opened-vectors}
 
@@ -65,6 +63,7 @@ pub record Laws (t : Scheme) (b c d : List ℕ) : Type 0 where
   pub right-opened : AllSound t → (r k : ℕ) → t .Full r → k < pairs (t .scheme) →
       let right = rightRecord (t .scheme) (t .first) b c d r k in
       Opened (t .scheme) (t .system) right r k (openingIn (t .system) right r k)
+  pub numbers : (k : ℕ) → IsCommitment t k → k < pairs (t .scheme)
   pub only-pair : AllSound t → (r k : ℕ) → t .Full r → (x y : List ℕ) (p : Compared t r k x y) →
       (k < pairs (t .scheme)) × (p .left ≡ leftRecord (t .scheme) (t .first) b c r k) × (p .right ≡ rightRecord (t .scheme) (t .first) b c d r k)
 
@@ -73,7 +72,7 @@ pub record Laws (t : Scheme) (b c d : List ℕ) : Type 0 where
 same-commitments : (scheme : ℕ) (system a b : List ℕ) (r : ℕ) → Auditable scheme system a b → roundCommitments b r ≡ roundCommitments a r
 unfolding roundCommitments
 same-commitments scheme system a b r k =
-    ap₂ (λ (h : Header) (l : List ℕ). take (S.commitmentsLength (h .scheme)) (drop (r * S.commitmentsLength (h .scheme)) l)) (sym (k .same-header)) (sym (k .same-commitments))
+    ap₂ (λ (h : Header) (l : List ℕ). commitmentsOf h l r) (sym (k .same-header)) (sym (k .same-commitments))
 
 -- the opening of an accepted round hashes to the first record's commitment
 hashes-first : (scheme : ℕ) (system a b : List ℕ) (r k : ℕ) (x : List ℕ) → Sound scheme system a b → r < headerIn a .rounds → Opened scheme system b r k x →
@@ -149,6 +148,9 @@ module _ (t : Scheme) (b c d : List ℕ) (laws : Laws t b c d) where
         right-has = right .has;
       }
 
+  compared-at : AllSound t → (r k : ℕ) → t .Full r → k < pairs scheme → AreCompared t r k
+  compared-at s r k full h = record { left-string = _; right-string = _; pair = pair-at s r k full h }
+
   -- and in no others: where the audit finds the same vectors, they agree
   agree : AllSound t → (r k : ℕ) → t .Full r → (k < pairs scheme → samePair scheme system a b c d r k ≡ true) → Agree t r k
   agree s r k full same x y p =
@@ -170,6 +172,7 @@ module _ (t : Scheme) (b c d : List ℕ) (laws : Laws t b c d) where
         round = r;
         used = round;
         none-differs = λ k. agree s r k (round .full) (same k);
+        each-compared = λ k is. compared-at s r k (round .full) (laws .numbers k is);
         zero-record = answering a b c r 0;
         one-record = answering a b c r 1;
         halves = laws .secret-halves r (round .full);
@@ -187,6 +190,7 @@ module _ (t : Scheme) (b c d : List ℕ) (laws : Laws t b c d) where
         pair = pair-at s r k full (differs .within);
         vectors-differ = differ-compared _ _ (not-true _ (differs .holds));
         first-pair = λ j h. agree s r j full (λ _. not-false _ (differs .before j h));
+        earlier-compared = λ j h. compared-at s r j full (omega (arith, h, differs .within));
         left-hashes = hashes-first scheme system a _ r k _ (laws .left-sound s r k) (used .within) (laws .left-opened s r k full (differs .within));
         right-hashes = hashes-first scheme system a _ r k _ (laws .right-sound s r k) (used .within) (laws .right-opened s r k full (differs .within));
       }
@@ -211,7 +215,7 @@ module _ (t : Scheme) (b c d : List ℕ) (laws : Laws t b c d) where
   -- ---- every answer
 
   search-claim : AllSound t → Claim t (searchOf scheme system a b c d)
-  unfolding IsFinding Right firstFull
+  unfolding IsFinding Right RightRefusal firstFull
   search-claim s = go (firstFull scheme a b c d) refl
     where
       go : (round : ℕ) → firstFull scheme a b c d ≡ round → Claim t (searchOf scheme system a b c d)
@@ -220,7 +224,7 @@ module _ (t : Scheme) (b c d : List ℕ) (laws : Laws t b c d) where
           (record {
             found-when-due = λ q. false≢true (sym (where-none (headerIn a .rounds) _ none (q .round) (q .round-in)) ∙ laws .full-when (q .round) (q .full));
             due-when-found = λ q. absurd q;
-            right = inr (λ e. omega (arith, e), refl, refl);
+            right = inr (nine, refl, refl);
           })
       go (suc r) some =
           let back : r ≡ suc r - 1 = omega arith in
@@ -229,7 +233,7 @@ module _ (t : Scheme) (b c d : List ℕ) (laws : Laws t b c d) where
 
   -- nothing is refused before the rounds are judged
   judged-claim : frontRefusal scheme system a b c d ≡ 0 → Claim t (auditOf scheme system a b c d)
-  unfolding IsFinding Right
+  unfolding IsFinding Right RightRefusal
   judged-claim passed = go (walk system 1 (a ∷ t .others) .whose) refl
     where
       first : Rejection
@@ -250,7 +254,7 @@ module _ (t : Scheme) (b c d : List ℕ) (laws : Laws t b c d) where
           })
 
   pub audit-claim : Claim t (auditOf scheme system a b c d)
-  unfolding IsFinding Right
+  unfolding IsFinding Right RightRefusal
   audit-claim = go (frontRefusal scheme system a b c d) refl
     where
       go : (number : ℕ) → frontRefusal scheme system a b c d ≡ number → Claim t (auditOf scheme system a b c d)
@@ -261,5 +265,5 @@ module _ (t : Scheme) (b c d : List ℕ) (laws : Laws t b c d) where
           (record {
             found-when-due = λ q. refused-before (none-refused scheme system a b c d (laws .front-when (not-refused system (q .system-well-formed)) (q .records-auditable)));
             due-when-found = λ q. absurd q;
-            right = inr (λ e. omega (arith, e, front-number scheme system a b c d), refl, refl);
+            right = inr (front-number scheme system a b c d refused-before, refl, refl);
           })

@@ -16,7 +16,7 @@ use Rattle.protocol.proofs.Rounds.{quadratic-map, soundness-three, soundness-fi
 use Rattle.round.specs.ThreePass.{openedFirst, openedSecond, firstNumber}
 use Rattle.exchange.specs.Messages.{middleIn, replyThreeIn, replyFiveIn}
 use Rattle.exchange.proofs.ReadBack.{Held, length-held}
-use Rattle.record.specs.Reader.{headerIn}
+use Rattle.record_form.specs.Record.{headerIn}
 use Rattle.transcript.specs.Transcript.{keyVector, roundMiddle, roundChallenge}
 use Rattle.openings.specs.Openings.{openingIn, compared, replyVector, secretOf}
 use Rattle.findings.specs.Findings.{Auditable, FullFive}

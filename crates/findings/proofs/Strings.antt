@@ -27,7 +27,7 @@ use Rattle.round.specs.ThreePass.{three, openedFirst, openedSecond, firstNumber
 use Rattle.round.specs.FivePass.{five, openingFive, acceptsFive}
 use Rattle.exchange.specs.Messages.{commitmentsIn, middleIn, replyThreeIn, replyFiveIn, accepts}
 use Rattle.exchange.proofs.ReadBack.{length-bytes}
-use Rattle.record.specs.Reader.{headerIn}
+use Rattle.record_form.specs.Record.{headerIn}
 use Rattle.transcript.specs.Transcript.{keyVector, roundCommitments, roundMiddle, roundChallenge, roundReply, acceptedRound}
 use Rattle.openings.specs.Openings.{openingThree, openingFiveIn, openingIn, compared}
 use Rattle.findings.specs.Findings.{Opens, first-of-three, second-of-three, of-five, HasVectors}

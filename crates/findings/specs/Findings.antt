@@ -1,6 +1,6 @@
 -- Demand 3's first half: when an audit has a finding, and what a finding is. Said of the records' bytes through the layout of a record and the check of a round;
 -- the definitions by which the audit is computed are not used.
-use Prim.Native.Nat.{ℕ, _+_, _<_}
+use Prim.Native.Nat.{ℕ, _+_, _*_, _<_}
 use mathlib.Core.Path.{_≡_}
 use mathlib.Core.Bool.{true, false}
 use mathlib.Core.Logic.{_⊎_}
@@ -12,12 +12,12 @@ use Rattle.commitment.specs.Commitment.{hashedString}
 use Rattle.field.specs.Vector.{addV, slotV}
 use Rattle.system.specs.System.{qOf, nOf, mOf, opsOf, F, WellFormedSystem}
 use Rattle.protocol.specs.Rounds.{IsX}
+use Rattle.scheme.specs.Scheme.{commitmentsLength}
 use Rattle.round.specs.Pieces.{commitment}
 use Rattle.round.specs.ThreePass.{firstNumber, secondNumber, firstString, secondString}
 use Rattle.round.specs.FivePass.{openingFive}
 use Rattle.exchange.specs.Messages.{commitmentsIn, middleIn, replyThreeIn, replyFiveIn}
-use Rattle.record_form.specs.Record.{WellFormedRecord}
-use Rattle.record.specs.Reader.{headerIn, fieldsIn}
+use Rattle.record_form.specs.Record.{WellFormedRecord, headerIn, fieldsIn}
 use Rattle.transcript.specs.Transcript.{keyVector, roundCommitments, roundMiddle, roundChallenge, roundReply, acceptedRound}
 use Rattle.auditing.specs.Outcome.{Outcome, secret, clash, refused}
 
@@ -149,7 +149,17 @@ pub record Compared (t : Scheme) (r k : ℕ) (x y : List ℕ) : Type 0 where
   pub left-has : HasVectors (t .scheme) k x left-vectors
   pub right-has : HasVectors (t .scheme) k y right-vectors
 
--- the two have equal vectors, "ρ ignored"
+-- the round has a commitment k: "Commitments: 32 bytes each, 3 or 2 a round."
+abbrev pub IsCommitment : Scheme → ℕ → Type 0
+IsCommitment t k = k * 32 < commitmentsLength (t .scheme)
+
+-- two openings of commitment k are compared
+pub record AreCompared (t : Scheme) (r k : ℕ) : Type 0 where
+  pub left-string : List ℕ
+  pub right-string : List ℕ
+  pub pair : Compared t r k left-string right-string
+
+-- whichever are have equal vectors, "ρ ignored"
 abbrev pub Agree : Scheme → ℕ → ℕ → Type 0
 Agree t r k = (x y : List ℕ) (p : Compared t r k x y) → p .left-vectors ≡ p .right-vectors
 
@@ -161,6 +171,7 @@ pub record TrueClash (t : Scheme) (k : ℕ) (x y : List ℕ) : Type 0 where
   pub pair : Compared t round k x y
   pub vectors-differ : pair .left-vectors ≡ pair .right-vectors → ⊥
   pub first-pair : (j : ℕ) → j < k → Agree t round j
+  pub earlier-compared : (j : ℕ) → j < k → AreCompared t round j
   pub left-hashes : sha256 x ≡ commitment (commitmentsIn (roundCommitments (t .first) round)) k
   pub right-hashes : sha256 y ≡ commitment (commitmentsIn (roundCommitments (t .first) round)) k
 
@@ -175,6 +186,7 @@ pub record TrueSecret (t : Scheme) (s : List ℕ) : Type 0 where
   pub round : ℕ
   pub used : RoundUsed t round
   pub none-differs : (k : ℕ) → Agree t round k
+  pub each-compared : (k : ℕ) → IsCommitment t k → AreCompared t round k
   pub zero-record : List ℕ
   pub one-record : List ℕ
   pub halves : t .Halves round zero-record one-record
@@ -187,12 +199,26 @@ pub data FirstRejected (system : List ℕ) : List (List ℕ) → ℕ → ℕ →
   rejected-later : (b : List ℕ) (bs : List (List ℕ)) (whose round : ℕ) → AllAccepted system b → FirstRejected system bs whose round →
       FirstRejected system (b ∷ bs) (whose + 1) round
 
--- an answer is right: a true secret; a true clash; and of the refusals 8 alone names a record and a round, the first that is rejected
+-- the numbers of "Refused because of the input" that an audit can give beside 8: all but 5
+abbrev pub otherNumbers : List ℕ
+otherNumbers = 1 ∷ 2 ∷ 3 ∷ 4 ∷ 6 ∷ 7 ∷ 9 ∷ []
+
+-- x stands in the list
+pub record OneOf (l : List ℕ) (x : ℕ) : Type 0 where
+  pub place : ℕ
+  pub inside : place < length l
+  pub is : l ! place ≡ x
+
+-- 8 with the first rejected record and round, "both given"; "they are 0 in every other answer"
+unfoldable pub RightRefusal : Scheme → ℕ → ℕ → ℕ → Type 0
+RightRefusal t number whose round =
+    ((number ≡ 8) × FirstRejected (t .system) (t .first ∷ t .others) whose round) ⊎ (OneOf otherNumbers number × (whose ≡ 0) × (round ≡ 0))
+
+-- an answer is right: a true secret, a true clash, or a refusal with its number, its record and its round
 unfoldable pub Right : Scheme → Outcome → Type 0
 Right t (secret s) = TrueSecret t s
 Right t (clash k x y) = TrueClash t k x y
-Right t (refused number whose round) =
-    ((number ≡ 8) × FirstRejected (t .system) (t .first ∷ t .others) whose round) ⊎ ((number ≡ 8 → ⊥) × (whose ≡ 0) × (round ≡ 0))
+Right t (refused number whose round) = RightRefusal t number whose round
 
 -- "An answer that is no refusal is a finding"
 unfoldable pub IsFinding : Outcome → Type 0

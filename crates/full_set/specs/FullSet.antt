@@ -4,7 +4,7 @@ use mathlib.Core.Bool.{Bool, cond, not, _&&_}
 use mathlib.Core.List.{List}
 use lib.Dec.{eqb}
 use Rattle.slices.specs.Slices.{_!_, same}
-use Rattle.record.specs.Reader.{headerIn}
+use Rattle.record_form.specs.Record.{headerIn}
 use Rattle.transcript.specs.Transcript.{roundMiddle, roundChallenge, firstWhere}
 
 -- the first of three records whose challenge in round r is k, the last where it is no other's

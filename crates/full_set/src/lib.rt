@@ -90,15 +90,14 @@ pub fn first_full<'a>(scheme: u8, a: &'a [u8], b: &'a [u8], c: &'a [u8], d: &'a 
     ensures { λ r. ⌜ r ≡ firstFull scheme (now (a .entry)) (now (b .entry)) (now (c .entry)) (now (d .entry)) ⌝ }
 {
     let rounds = header_of(a).rounds;
-    let mut found = 0;
-    let mut left = rounds;
-    while 0 < left {
-        let r = rounds - left;
-        if full_set(scheme, a, b, c, d, r) {
-            found = r + 1;
-            break;
+    let mut r = 0;
+    loop {
+        if r == rounds {
+            break 0;
         }
-        left -= 1;
+        if full_set(scheme, a, b, c, d, r) {
+            break r + 1;
+        }
+        r += 1;
     }
-    found
 }

@@ -11,7 +11,7 @@ use Rattle.round.specs.declared.pieces.ReplyThree.{ReplyThree}
 use Rattle.round.specs.ThreePass.{firstNumber, firstString, secondString}
 use Rattle.round.specs.FivePass.{openingFive}
 use Rattle.exchange.specs.Messages.{middleIn, replyThreeIn, replyFiveIn}
-use Rattle.record.specs.Reader.{headerIn}
+use Rattle.record_form.specs.Record.{headerIn}
 use Rattle.transcript.specs.Transcript.{keyVector, roundMiddle, roundChallenge, roundReply}
 
 -- three passes: which of a reply's two openings is that of commitment k

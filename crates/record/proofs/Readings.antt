@@ -8,8 +8,8 @@ use borrow.Author.Tests.{eqb-true, eqb-false, ne-eqb}
 use Rattle.record_form.specs.declared.layout.Layout.{Layout}
 use Rattle.record.specs.declared.Reading.{Reading}
 use Rattle.record.specs.declared.Reading.the-variants.{Good, Refused}
-use Rattle.record_form.specs.Record.{layoutOf}
-use Rattle.record.specs.Reader.{headerIn, recordRefusal, refusalOf, readingOf}
+use Rattle.record_form.specs.Record.{layoutOf, headerIn}
+use Rattle.record.specs.Reader.{recordRefusal, refusalOf, readingOf}
 
 pub reading-good : (b : List ℕ) → recordRefusal b ≡ 0 → readingOf b ≡ Good (layoutOf (headerIn b))
 unfolding readingOf

@@ -15,10 +15,10 @@ use Rattle.field.specs.Vector.{allBelow}
 use Rattle.system.proofs.SystemLayout.{all-below-at, at-all-below}
 use Rattle.record_form.specs.declared.layout.Header.{Header}
 use Rattle.record_form.specs.declared.form.Check.the-variants.{FileOrder}
-use Rattle.record_form.specs.Record.{commitmentsLength, exchangesLength, layoutOf, recordLength, word, entry, table, head, Fields, written, Valid, WellFormedRecord}
+use Rattle.record_form.specs.Record.{commitmentsLength, exchangesLength, layoutOf, recordLength, word, entry, table, head, Fields, written, Valid, WellFormedRecord, headerIn, bodyIn, fieldsIn}
 use Rattle.record_form.specs.Form.{areValues, exchangesRefusal}
-use Rattle.record.specs.Reader.{headerIn, bodyIn, fieldsIn, recordRefusal}
-use Rattle.record_form.proofs.ValidForm.{Values, values, values-true, valid-in-order, each-zero}
+use Rattle.record.specs.Reader.{recordRefusal}
+use Rattle.record_form.proofs.ValidForm.{values, values-true, header-values-of, valid-in-order, each-zero}
 
 -- ---- a record that is not refused
 
@@ -182,14 +182,6 @@ unfolding written head
 table-written f =
     ap (take 24) (append-assoc (table (f .header) ++ f .key) (f .commitments) (f .exchanges) ∙ append-assoc (table (f .header)) (f .key) (f .commitments ++ f .exchanges)) ∙
     take-at (table (f .header)) (f .key ++ (f .commitments ++ f .exchanges)) 24 (length-table (f .header))
-
-pub header-values-of : (f : Fields) → Valid f → Values (f .header)
-header-values-of f v =
-    record {
-      scheme-value = v .scheme-value;
-      sizes-value = record { is-field = v .q-value; n-low = v .n-value .0; n-high = v .n-value .1; m-low = v .m-value .0; m-high = v .m-value .1 };
-      rounds-value = v .rounds-value;
-    }
 
 at-least : (h : Header) → 30 ≤ recordLength h
 unfolding recordLength

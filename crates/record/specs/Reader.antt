@@ -7,27 +7,11 @@ use lib.ListN.{length, take, drop}
 use Rattle.slices.specs.Slices.{_!_, same}
 use Rattle.refusal.specs.Refusal.{unless, _orElse_}
 use Rattle.field.specs.Vector.{allBelow}
-use Rattle.record_form.specs.declared.layout.Header.{Header}
-use Rattle.record_form.specs.declared.layout.Body.{Body}
 use Rattle.record_form.specs.declared.form.Check.the-variants.{FileOrder}
 use Rattle.record.specs.declared.Reading.{Reading}
 use Rattle.record.specs.declared.Reading.the-variants.{Good, Refused}
-use Rattle.record_form.specs.Record.{Fields, layoutOf, recordLength, table}
+use Rattle.record_form.specs.Record.{layoutOf, recordLength, table, headerIn, fieldsIn}
 use Rattle.record_form.specs.Form.{areValues, exchangesRefusal}
-
--- "then scheme, q, n, m, N"
-unfoldable pub headerIn : List ℕ → Header
-headerIn b = record { scheme = b ! 1; q = b ! 2; n = b ! 3; m = b ! 4; rounds = b ! 5 }
-
--- the bytes of a body
-unfoldable pub bodyIn : Body → List ℕ → List ℕ
-bodyIn body b = take (body .length) (drop (body .offset) b)
-
--- the fields that stand where the reader says
-unfoldable pub fieldsIn : List ℕ → Fields
-fieldsIn b =
-    let l = layoutOf (headerIn b) in
-    record { header = l .header; key = bodyIn (l .key) b; commitments = bodyIn (l .commitments) b; exchanges = bodyIn (l .exchanges) b }
 
 -- "Records: each in turn 6 (size, edition), 1, 6 (table, length), then 3 or 4, the first bad byte in file order"
 unfoldable pub recordRefusal : List ℕ → ℕ

@@ -21,8 +21,8 @@ use slices::part;
 ghost use mathlib.Core.Path.{_≡_};
 ghost use lib.ListN.{take, drop};
 ghost use Rattle.slices.specs.Slices.{same};
-ghost use Rattle.record_form.specs.Record.{table as tableOf};
-ghost use Rattle.record.specs.Reader.{headerIn, bodyIn, recordRefusal, refusalOf, readingOf};
+ghost use Rattle.record_form.specs.Record.{table as tableOf, headerIn, bodyIn};
+ghost use Rattle.record.specs.Reader.{recordRefusal, refusalOf, readingOf};
 
 // The answer to a record: where its bodies stand, or why it is refused.
 pub enum Reading {

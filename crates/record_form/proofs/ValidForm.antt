@@ -14,7 +14,7 @@ use Rattle.scheme.specs.Scheme.{isScheme, isRounds, challenges}
 use Rattle.record_form.specs.declared.layout.Header.{Header}
 use Rattle.record_form.specs.declared.form.Check.{Check}
 use Rattle.record_form.specs.declared.form.Check.the-variants.{FileOrder, Elements, Challenges}
-use Rattle.record_form.specs.Record.{exchangeOf, middleOf, challengeOf, vectorsOf, ValidExchange}
+use Rattle.record_form.specs.Record.{Fields, exchangeOf, middleOf, challengeOf, vectorsOf, ValidExchange, Valid}
 use Rattle.record_form.specs.Form.{areValues, exchangeRefusal, exchangesRefusal}
 
 -- ---- the header
@@ -48,6 +48,15 @@ values-true h v =
       le-leb 1 (h .rounds) (v .rounds-value .0),
       le-leb (h .rounds) 255 (v .rounds-value .1),
     )
+
+-- those of valid fields are
+pub header-values-of : (f : Fields) → Valid f → Values (f .header)
+header-values-of f v =
+    record {
+      scheme-value = v .scheme-value;
+      sizes-value = record { is-field = v .q-value; n-low = v .n-value .0; n-high = v .n-value .1; m-low = v .m-value .0; m-high = v .m-value .1 };
+      rounds-value = v .rounds-value;
+    }
 
 -- ---- an exchange
 

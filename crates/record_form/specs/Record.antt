@@ -69,9 +69,29 @@ pub record Fields : Type 0 where
 unfoldable pub written : Fields → List ℕ
 written f = head (f .header) ++ table (f .header) ++ f .key ++ f .commitments ++ f .exchanges
 
--- ---- the parts of an exchange
+-- ---- the fields that stand in a record
 
--- the exchange of round r, counted from 0
+-- "then scheme, q, n, m, N"
+unfoldable pub headerIn : List ℕ → Header
+headerIn b = record { scheme = b ! 1; q = b ! 2; n = b ! 3; m = b ! 4; rounds = b ! 5 }
+
+-- the bytes of a body
+unfoldable pub bodyIn : Body → List ℕ → List ℕ
+bodyIn body b = take (body .length) (drop (body .offset) b)
+
+-- the header and the three bodies, where the header says that they stand
+unfoldable pub fieldsIn : List ℕ → Fields
+fieldsIn b =
+    let l = layoutOf (headerIn b) in
+    record { header = l .header; key = bodyIn (l .key) b; commitments = bodyIn (l .commitments) b; exchanges = bodyIn (l .exchanges) b }
+
+-- ---- the parts of the bodies
+
+-- the commitments of round r, counted from 0
+unfoldable pub commitmentsOf : Header → List ℕ → ℕ → List ℕ
+commitmentsOf h commitments r = take (S.commitmentsLength (h .scheme)) (drop (r * S.commitmentsLength (h .scheme)) commitments)
+
+-- the exchange of round r
 unfoldable pub exchangeOf : Header → List ℕ → ℕ → List ℕ
 exchangeOf h exchanges r = take (exchangeLength h) (drop (r * exchangeLength h) exchanges)
 

@@ -9,12 +9,12 @@ use Rattle.field.specs.Vector.{allBelow}
 use Rattle.system.proofs.SystemLayout.{all-below-at, at-all-below}
 use Rattle.record_form.specs.declared.form.Check.the-variants.{Elements, Challenges}
 use Rattle.record.specs.declared.Reading.the-variants.{Good}
-use Rattle.record_form.specs.Record.{Fields, commitmentsLength, exchangesLength, layoutOf, recordLength, written, Valid}
+use Rattle.record_form.specs.Record.{Fields, commitmentsLength, exchangesLength, layoutOf, recordLength, written, Valid, fieldsIn}
 use Rattle.record_form.specs.Form.{areValues}
-use Rattle.record.specs.Reader.{fieldsIn, recordRefusal, readingOf}
-use Rattle.record_form.proofs.ValidForm.{values, values-true, valid-each, each-zero}
+use Rattle.record.specs.Reader.{recordRefusal, readingOf}
+use Rattle.record_form.proofs.ValidForm.{values, values-true, header-values-of, valid-each, each-zero}
 use Rattle.record.proofs.Readings.{reading-good}
-use Rattle.record.proofs.RecordLayout.{header-values-of, valid-fields, fields-written, header-written, written-accepted, written-fields, whole-fields}
+use Rattle.record.proofs.RecordLayout.{valid-fields, fields-written, header-written, written-accepted, written-fields, whole-fields}
 use Rattle.record_writer.specs.Writer.{writeRefusal}
 
 -- ---- not refused is valid

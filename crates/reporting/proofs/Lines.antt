@@ -8,7 +8,7 @@ use native.Mathlib.Numerals.{add-one}
 use lib.ListN.{length, length-append}
 use Rattle.slices.specs.Slices.{placed}
 use Rattle.slices.proofs.Parts.{placed-append}
-use Rattle.record.specs.Reader.{headerIn}
+use Rattle.record_form.specs.Record.{headerIn}
 use Rattle.transcript.specs.Transcript.{roundChallenge, acceptedRound, acceptedCount}
 use Rattle.report_lines.specs.ReportLines.{roundLine, verdictLine}
 use Rattle.reporting.specs.Report.{roundLines, judgedText}

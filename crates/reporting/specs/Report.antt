@@ -7,7 +7,7 @@ use lib.ListN.{length, take, drop}
 use Rattle.slices.specs.Slices.{placed}
 use Rattle.refusal.specs.Refusal.{unless, _orElse_}
 use Rattle.system.specs.System.{nOf, mOf, systemLength}
-use Rattle.record.specs.Reader.{headerIn}
+use Rattle.record_form.specs.Record.{headerIn}
 use Rattle.transcript.specs.Transcript.{judgeRefusal, roundChallenge, acceptedRound, acceptedCount}
 use Rattle.report_lines.specs.ReportLines.{roundLine, verdictLine, refusedLine}
 

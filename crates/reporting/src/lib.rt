@@ -18,20 +18,20 @@ ghost use mathlib.Core.Path.{_≡_};
 ghost use mathlib.Core.Bool.{cond};
 ghost use Prim.Native.Nat.{_+_, _≤_, _<_};
 ghost use lib.ListN.{length};
-ghost use Rattle.slices.specs.Slices.{placed};
+ghost use Rattle.slices.specs.Slices.{placed, zeros};
 ghost use Rattle.system.specs.System.{systemRefusal};
 ghost use Rattle.reporting.specs.Report.{systemPart, recordPart, reportRefusal, judgedText, reportLength, reportOut};
 
-// Room for the longest input and one byte more, by which an input that is too long shows.
+// Zeros, with room for the longest input and one byte more, by which an input that is too long shows.
 pub fn input_buffer() -> [u8; 65537]
-    ensures { λ r. ⌜ 65537 ≡ length r ⌝ }
+    ensures { λ r. ⌜ (r ≡ zeros 65537) × (65537 ≡ length r) ⌝ }
 {
     [0; 65537]
 }
 
-// Room for the longest text.
+// Zeros, with room for the longest text.
 pub fn text_buffer() -> [u8; 8192]
-    ensures { λ r. ⌜ 8192 ≡ length r ⌝ }
+    ensures { λ r. ⌜ (r ≡ zeros 8192) × (8192 ≡ length r) ⌝ }
 {
     [0; 8192]
 }

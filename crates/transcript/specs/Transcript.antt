@@ -1,14 +1,13 @@
 -- The rounds of a record, counted from 0: their messages, whether each is accepted, and what is refused before they are judged.
-use Prim.Native.Nat.{ℕ, zero, suc, _+_, _*_}
+use Prim.Native.Nat.{ℕ, zero, suc, _+_}
 use mathlib.Core.Bool.{Bool, cond}
 use mathlib.Core.List.{List}
-use lib.ListN.{take, drop}
 use Rattle.refusal.specs.Refusal.{unless, _orElse_}
 use Rattle.field.specs.Vector.{held}
-use Rattle.scheme.specs.Scheme as S
 use Rattle.system.specs.System.{hasSizes, systemRefusal}
-use Rattle.record_form.specs.Record.{exchangeOf, middleOf, challengeOf, replyOf}
-use Rattle.record.specs.Reader.{headerIn, fieldsIn, recordRefusal}
+use Rattle.record_form.specs.Record.{headerIn, fieldsIn, commitmentsOf, exchangeOf, middleOf, challengeOf, replyOf}
+use Rattle.record_form.specs.Rounds.{Round}
+use Rattle.record.specs.Reader.{recordRefusal}
 use Rattle.exchange.specs.Messages.{accepts}
 
 -- 7: "q, n or m of the system differ from the .. record's"
@@ -25,9 +24,7 @@ keyVector b = held (fieldsIn b .key)
 
 -- "Commitments: 32 bytes each, 3 or 2 a round."
 unfoldable pub roundCommitments : List ℕ → ℕ → List ℕ
-roundCommitments b r =
-    let each = S.commitmentsLength (headerIn b .scheme) in
-    take each (drop (r * each) (fieldsIn b .commitments))
+roundCommitments b r = commitmentsOf (headerIn b) (fieldsIn b .commitments) r
 
 -- "Exchange: scheme 3, challenge byte and reply; scheme 5, α, t1, e1, challenge byte, reply."
 unfoldable pub roundExchange : List ℕ → ℕ → List ℕ
@@ -42,6 +39,10 @@ roundChallenge b r = challengeOf (headerIn b) (roundExchange b r)
 
 abbrev pub roundReply : List ℕ → ℕ → List ℕ
 roundReply b r = replyOf (headerIn b) (roundExchange b r)
+
+-- the round, by its messages
+unfoldable pub roundIn : List ℕ → ℕ → Round
+roundIn b r = record { commitments = roundCommitments b r; middle = roundMiddle b r; challenge = roundChallenge b r; reply = roundReply b r }
 
 -- the round is accepted by the check of its scheme, for the system and the record's key
 unfoldable pub acceptedRound : List ℕ → List ℕ → ℕ → Bool

@@ -10,6 +10,7 @@ pub mod auditing;
 pub mod calls;
 pub mod case;
 pub mod demo;
+pub mod edges;
 pub mod exchange;
 pub mod faults;
 pub mod forged;
@@ -53,7 +54,26 @@ pub fn stored() -> Vec<Stored> {
             bytes,
         })
     });
-    pairs.chain(samples::stored()).collect()
+    let report_runs = Stored {
+        path: "report/runs".to_string(),
+        bytes: edges::reports().text("report").into_bytes(),
+    };
+    pairs
+        .chain(samples::stored())
+        .chain([report_runs])
+        .collect()
+}
+
+/// The files that the runs in `audit/runs` and `report/runs` are on, below a folder for each program.
+pub fn run_files() -> Vec<Stored> {
+    let programs = [("audit", edges::audit()), ("report", edges::reports())];
+    let files = programs.into_iter().flat_map(|(program, runs)| {
+        runs.files.into_iter().map(move |file| Stored {
+            path: format!("{program}/{}", file.path),
+            bytes: file.bytes,
+        })
+    });
+    files.collect()
 }
 
 /// The vector file of each program.

@@ -1,6 +1,7 @@
 //! The audit program's samples: a system and records in files, and runs of the program on them.
 
 use super::audited::Cards;
+use super::edges;
 use super::honest::SMALL_S;
 use super::maps::SMALL;
 use super::piece::Piece;
@@ -33,7 +34,8 @@ const RUNS: [&str; 7] = [
 const NO_AUDITS: [&str; 2] = ["system three/a three/b", "system three/a three/b missing"];
 
 /// All files of the folder: the samples, the run's arguments and output, and `runs`, where a line
-/// starts with `$ audit` and the arguments, and what is printed follows.
+/// starts with `$ audit` and the arguments, and what is printed follows. Some of the runs are on
+/// files that are not stored.
 pub fn stored() -> Vec<Stored> {
     let samples = samples();
     let args = STORED_RUN.replace(' ', "\n") + "\n";
@@ -44,6 +46,7 @@ pub fn stored() -> Vec<Stored> {
     for run in NO_AUDITS {
         runs += &format!("$ audit {run}\n");
     }
+    runs += &edges::audit().text(PROGRAM);
     let texts = [
         ("args", args),
         ("stdout", printed(&samples, STORED_RUN)),
@@ -62,7 +65,7 @@ pub fn stored() -> Vec<Stored> {
 
 /// The small key's system; records of two rounds, the second with a full set; and the second of
 /// scheme 3 with that round rejected.
-fn samples() -> Vec<Stored> {
+pub fn samples() -> Vec<Stored> {
     let three = sessions(
         Scheme::ThreePass,
         [&[(0, 0), (0, 1), (0, 1)], &[(0, 2), (0, 0), (0, 1)]],
@@ -85,7 +88,8 @@ fn samples() -> Vec<Stored> {
     files
 }
 
-fn file(path: &str, bytes: Vec<u8>) -> Stored {
+/// A file of the folder.
+pub fn file(path: &str, bytes: Vec<u8>) -> Stored {
     let path = path.to_string();
     Stored { path, bytes }
 }
@@ -100,7 +104,7 @@ fn sessions(scheme: Scheme, asked: [&[(u8, u8)]; 2]) -> Vec<Session> {
 
 /// What the program prints for these files: an audit of scheme 3 with three records, of scheme 5
 /// with four.
-fn printed(samples: &[Stored], run: &str) -> String {
+pub fn printed(samples: &[Stored], run: &str) -> String {
     let bytes = |path: &str| {
         let sample = samples.iter().find(|sample| sample.path == path);
         &sample.expect("a sample").bytes[..]

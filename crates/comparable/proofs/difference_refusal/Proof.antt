@@ -1,5 +1,5 @@
 -- The callees' answers, put together. Assumes nothing.
-use Rattle.record.specs.Reader.{fieldsIn}
+use Rattle.record_form.specs.Record.{fieldsIn}
 use Rattle.comparable.specs.Comparable.{differenceRefusal}
 use borrow.Author.Needs.{needs}
 use Rattle.comparable.proofs.difference_refusal.Statement.{statement}

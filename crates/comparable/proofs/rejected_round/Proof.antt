@@ -5,7 +5,7 @@ use mathlib.Core.Bool.{Bool, not}
 use mathlib.Core.List.{List}
 use native.Mathlib.Omega.{arith}
 use Rattle.record_form.specs.declared.layout.Header.{Header}
-use Rattle.record.specs.Reader.{headerIn}
+use Rattle.record_form.specs.Record.{headerIn}
 use Rattle.transcript.specs.Transcript.{acceptedRound, firstWhere}
 use Rattle.transcript.proofs.Search.{where-start, where-step, where-here, where-end}
 use Rattle.comparable.specs.Comparable.{rejectedRound}

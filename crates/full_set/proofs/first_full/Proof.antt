@@ -1,10 +1,10 @@
--- The invariant: no round before the ones left has a full set. Assumes nothing.
-use Prim.Native.Nat.{ℕ, _+_, _-_, _≤_}
+-- The invariant: no round so far has a full set. Assumes nothing.
+use Prim.Native.Nat.{ℕ, _-_, _≤_}
 use mathlib.Core.Path.{_≡_, ap, _∙_}
 use mathlib.Core.List.{List}
 use native.Mathlib.Omega.{arith}
 use Rattle.record_form.specs.declared.layout.Header.{Header}
-use Rattle.record.specs.Reader.{headerIn}
+use Rattle.record_form.specs.Record.{headerIn}
 use Rattle.transcript.specs.Transcript.{firstWhere}
 use Rattle.transcript.proofs.Search.{where-start, where-step, where-here, where-end}
 use Rattle.full_set.specs.FullSet.{fullSet, firstFull}
@@ -13,10 +13,10 @@ use Rattle.full_set.proofs.first_full.Statement.{statement}
 use Rattle.full_set.proofs.first_full.Tie as tie
 
 abbrev Inv-loop : tie.InvT-loop
-Inv-loop scheme a b c d rounds found₀ left₀ found left = (firstWhere (rounds - left) (fullSet scheme a b c d) ≡ 0) × (found ≡ 0) × (left ≤ rounds) × (rounds ≤ 255)
+Inv-loop scheme a b c d rounds r₀ r = (firstWhere r (fullSet scheme a b c d) ≡ 0) × (r ≤ rounds) × (rounds ≤ 255)
 
 abbrev μ-loop : tie.MeasureT-loop
-μ-loop scheme a b c d rounds found₀ left₀ found left = left
+μ-loop scheme a b c d rounds r₀ r = rounds - r
 
 answer : (scheme : ℕ) (a b c d : List ℕ) (h : Header) (found : ℕ) → h ≡ headerIn a → found ≡ firstWhere (h .rounds) (fullSet scheme a b c d) →
     found ≡ firstFull scheme a b c d
@@ -30,16 +30,13 @@ first-full-spec =
     Inv-loop
     μ-loop
     (λ c κs. search needs)
-    (λ c. (where-start _ _ (omega arith), omega arith, omega arith, omega arith))
-    (λ c. omega arith)
+    (λ c. (where-start _ _ (omega arith), omega arith, omega arith))
     (λ c κs. search needs)
     (λ c. omega arith)
     (λ c. omega arith)
     (λ c. omega arith)
+    (λ c. (where-step _ _ _ _ (c .before .before .before .loop .inv .0) (c .before .full-set .ensures) (c .if2 .left) (omega arith), omega arith, omega arith))
+    (λ c. answer _ _ _ _ _ _ _ (c .before .before .header-of .ensures) (where-end _ _ _ (c .before .loop .inv .0) (omega arith) (omega arith)))
     (λ c.
-    let loop = c .before .before .before .loop in
-    let rounds = c .before .before .before .before .header-of .result .rounds in
-    let next : rounds - (loop .left - 1) ≡ rounds - loop .left + 1 = omega arith in
-    (where-step _ _ _ _ (loop .inv .0) (c .before .full-set .ensures) (c .if1 .left) next, omega arith, omega arith, omega arith))
-    (λ c. answer _ _ _ _ _ _ _ (c .before .before .header-of .ensures) (c .before .loop .inv .1 ∙ where-end _ _ _ (c .before .loop .inv .0) (omega arith) (omega arith)))
-    (λ c. answer _ _ _ _ _ _ _ (c .before .before .before .before .header-of .ensures) (where-here _ _ _ _ (c .before .before .before .loop .inv .0) (c .before .full-set .ensures) (c .if1 .taken) (omega arith))))
+    answer _ _ _ _ _ _ _ (c .before .before .before .before .header-of .ensures)
+    (where-here _ _ _ _ (c .before .before .before .loop .inv .0) (c .before .full-set .ensures) (c .if2 .taken) (omega arith))))

@@ -1,5 +1,5 @@
 -- The callee's answer. Assumes nothing.
-use Rattle.record.specs.Reader.{bodyIn}
+use Rattle.record_form.specs.Record.{bodyIn}
 use borrow.Author.Needs.{needs}
 use Rattle.record.proofs.body_of.Statement.{statement}
 use Rattle.record.proofs.body_of.Tie as tie

@@ -1,5 +1,5 @@
 -- The callees' answers, put together. Assumes nothing.
-use Rattle.record.specs.Reader.{headerIn}
+use Rattle.record_form.specs.Record.{headerIn}
 use borrow.Author.Needs.{needs}
 use Rattle.record.proofs.header_of.Statement.{statement}
 use Rattle.record.proofs.header_of.Tie as tie

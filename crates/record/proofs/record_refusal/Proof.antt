@@ -1,6 +1,7 @@
 -- The callees' answers, put together. Assumes nothing.
 use Rattle.refusal.proofs.Refusals.{orElse-assoc}
-use Rattle.record.specs.Reader.{recordRefusal, fieldsIn}
+use Rattle.record_form.specs.Record.{fieldsIn}
+use Rattle.record.specs.Reader.{recordRefusal}
 use borrow.Author.Needs.{needs}
 use Rattle.record.proofs.record_refusal.Statement.{statement}
 use Rattle.record.proofs.record_refusal.Tie as tie

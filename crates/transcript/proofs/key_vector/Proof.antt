@@ -1,5 +1,5 @@
 -- The callees' answers, put together. Assumes nothing.
-use Rattle.record.specs.Reader.{fieldsIn}
+use Rattle.record_form.specs.Record.{fieldsIn}
 use Rattle.transcript.specs.Transcript.{keyVector}
 use borrow.Author.Needs.{needs}
 use Rattle.transcript.proofs.key_vector.Statement.{statement}

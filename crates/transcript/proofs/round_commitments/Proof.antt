@@ -1,12 +1,12 @@
 -- The callees' answers, put together. Assumes nothing.
-use Rattle.record.specs.Reader.{fieldsIn}
+use Rattle.record_form.specs.Record.{fieldsIn, commitmentsOf}
 use Rattle.transcript.specs.Transcript.{roundCommitments}
 use borrow.Author.Needs.{needs}
 use Rattle.transcript.proofs.round_commitments.Statement.{statement}
 use Rattle.transcript.proofs.round_commitments.Tie as tie
 
 pub round-commitments-spec : {M : Type 1} → statement M
-unfolding roundCommitments fieldsIn
+unfolding roundCommitments commitmentsOf fieldsIn
 round-commitments-spec =
     tie.close
     (tie.spec

@@ -1,6 +1,5 @@
 -- The callees' answers, put together. Assumes nothing.
-use Rattle.record_form.specs.Record.{exchangeLength, exchangeOf}
-use Rattle.record.specs.Reader.{fieldsIn}
+use Rattle.record_form.specs.Record.{exchangeLength, exchangeOf, fieldsIn}
 use Rattle.transcript.specs.Transcript.{roundExchange}
 use borrow.Author.Needs.{needs}
 use Rattle.transcript.proofs.round_exchange.Statement.{statement}

@@ -1,0 +1,208 @@
+-- Fields and rounds: the parts of an exchange one behind the other are the exchange, those of a body the body, for every length that is right; the rounds of fields
+-- that were made of rounds are those, and fields are those of their rounds. Assumes nothing.
+use Prim.Native.Nat.{ℕ, zero, suc, _+_, _*_, _≤_, _<_}
+use mathlib.Core.Path.{_≡_, refl, sym, ap, ap₂, subst, _∙_}
+use mathlib.Core.List.{List, [], _∷_, _++_}
+use native.Mathlib.Nat.{lt-of-not-le, mul-le-mul-right, zero-mul, suc-mul}
+use native.Mathlib.Numerals.{add-one}
+use native.Mathlib.Decide.{decLe}
+use native.Mathlib.Omega.{arith}
+use lib.ListN.{length, take, drop, length-append, length-drop}
+use lib.Seq.{length-take-le, take-all, take-add, take-at, drop-at, getD-at, take-take, take-append-le, drop-append-le, append-snoc, split-at}
+use Rattle.slices.specs.Slices.{_!_}
+use Rattle.scheme.specs.Scheme as S
+use Rattle.record_form.specs.declared.layout.Header.{Header}
+use Rattle.record_form.specs.Record.{Fields, Elements, commitmentsLength, exchangeLength, exchangesLength, Valid, ValidExchange}
+use Rattle.record_form.specs.Record.{commitmentsOf, exchangeOf, middleOf, challengeOf, replyOf, vectorsOf}
+use Rattle.record_form.specs.Rounds.{Round, exchangeBytes, joined, fieldsOfRounds, ValidRound, ValidRounds, roundOf}
+use Rattle.record_form.proofs.ValidForm.{values, values-true, header-values-of}
+
+-- ---- an exchange
+
+-- every exchange of the right length is its parts, one behind the other
+pub exchange-is-parts : (h : Header) (x : List ℕ) → length x ≡ exchangeLength h → middleOf h x ++ challengeOf h x ∷ replyOf h x ≡ x
+unfolding exchangeLength S.exchangeLength middleOf challengeOf replyOf
+exchange-is-parts h x long =
+    let k = S.middleLength (h .scheme) (h .n) (h .m) in
+    let n = S.replyLength (h .scheme) (h .n) (h .m) in
+    let rest : take n (drop (k + 1) x) ≡ drop (suc k) x =
+    take-all n (drop (k + 1) x) (rw (length-drop (k + 1) x) (omega (arith, long))) ∙ ap (λ (j : ℕ). drop j x) (add-one k)
+    in
+    ap (λ (l : List ℕ). take k x ++ (x ! k) ∷ l) rest ∙ sym (split-at x k 0 (omega (arith, long)))
+
+-- the parts of an exchange that was made of parts are those
+module _ (h : Header) (x : Round) (v : ValidRound h x) where
+  length-exchange : length (exchangeBytes x) ≡ exchangeLength h
+  unfolding exchangeBytes exchangeLength S.exchangeLength
+  length-exchange = length-append (x .middle) (x .challenge ∷ x .reply) ∙ omega (arith, v .middle-length, v .reply-length)
+
+  middle-of : middleOf h (exchangeBytes x) ≡ x .middle
+  unfolding exchangeBytes middleOf
+  middle-of = take-at (x .middle) _ _ (v .middle-length)
+
+  challenge-of : challengeOf h (exchangeBytes x) ≡ x .challenge
+  unfolding exchangeBytes challengeOf
+  challenge-of = getD-at (x .middle) (x .challenge) (x .reply) 0 _ (v .middle-length)
+
+  -- what stands behind the challenge
+  behind : drop (S.middleLength (h .scheme) (h .n) (h .m) + 1) (exchangeBytes x) ≡ x .reply
+  unfolding exchangeBytes
+  behind =
+      let k = S.middleLength (h .scheme) (h .n) (h .m) in
+      let front : length (x .middle ++ x .challenge ∷ []) ≡ k + 1 = length-append (x .middle) (x .challenge ∷ []) ∙ omega (arith, v .middle-length) in
+      ap (drop (k + 1)) (sym (append-snoc (x .middle) (x .challenge) (x .reply))) ∙ drop-at (x .middle ++ x .challenge ∷ []) (x .reply) (k + 1) front
+
+  reply-of : replyOf h (exchangeBytes x) ≡ x .reply
+  unfolding replyOf
+  reply-of =
+      let n = S.replyLength (h .scheme) (h .n) (h .m) in
+      ap (take n) behind ∙ take-all n (x .reply) (omega (arith, v .reply-length))
+
+  vectors-of : vectorsOf h (exchangeBytes x) ≡ take (S.vectorsLength (h .scheme) (h .n) (h .m)) (x .reply)
+  unfolding vectorsOf
+  vectors-of = ap (take (S.vectorsLength (h .scheme) (h .n) (h .m))) behind
+
+  valid-exchange-of : ValidExchange h (exchangeBytes x)
+  valid-exchange-of =
+      record {
+        middle-elements = subst (Elements (h .q)) (sym middle-of) (v .middle-elements);
+        challenge-value = rw challenge-of (v .challenge-value);
+        reply-elements = subst (Elements (h .q)) (sym vectors-of) (v .reply-elements);
+      }
+
+-- ---- a body
+
+-- the first n of the parts of a list are its front
+joined-front : (each n : ℕ) (l : List ℕ) → joined n (λ r. take each (drop (r * each) l)) ≡ take (n * each) l
+unfolding joined
+joined-front each zero l = ap (λ (k : ℕ). take k l) (sym (zero-mul each))
+joined-front each (suc n) l =
+    ap (λ (s : List ℕ). s ++ take each (drop (n * each) l)) (joined-front each n l) ∙ sym (take-add (n * each) each l) ∙
+    ap (λ (k : ℕ). take k l) (sym (suc-mul n each))
+
+-- every body of the right length is its parts, one behind the other
+pub body-is-parts : (each n : ℕ) (l : List ℕ) → length l ≡ n * each → joined n (λ r. take each (drop (r * each) l)) ≡ l
+body-is-parts each n l long = joined-front each n l ∙ take-all (n * each) l (omega (arith, long))
+
+pub length-joined : (each n : ℕ) (part : ℕ → List ℕ) → ((r : ℕ) → r < n → length (part r) ≡ each) → length (joined n part) ≡ n * each
+unfolding joined
+length-joined each zero part long = sym (zero-mul each)
+length-joined each (suc n) part long =
+    length-append (joined n part) (part n) ∙
+    ap₂ _+_ (length-joined each n part (λ r h. long r (omega arith))) (long n (omega arith)) ∙ sym (suc-mul n each)
+
+-- part r of a body that was made of parts is that part
+pub joined-at : (each n : ℕ) (part : ℕ → List ℕ) → ((r : ℕ) → r < n → length (part r) ≡ each) → (r : ℕ) → r < n → take each (drop (r * each) (joined n part)) ≡ part r
+unfolding joined
+joined-at each zero part long r h = absurd (omega arith)
+joined-at each (suc n) part long r h =
+    let before = length-joined each n part (λ i b. long i (omega arith)) in
+    elim (decLe n r) [
+      | yes last ↦
+          let is : r ≡ n = omega arith in
+          rw is (ap (take each) (drop-at (joined n part) (part n) (n * each) before) ∙ take-all each (part n) (omega (arith, long n (omega arith))))
+      | no earlier ↦
+          let below : r < n = lt-of-not-le earlier in
+          let room : (r + 1) * each ≤ n * each = mul-le-mul-right each (omega arith) in
+          ap (take each) (drop-append-le (r * each) (joined n part) (part n) (omega (arith, before, room))) ∙
+          take-append-le each (drop (r * each) (joined n part)) (part n) (rw (length-drop (r * each) (joined n part)) (omega (arith, before, room))) ∙
+          joined-at each n part (λ i b. long i (omega arith)) r below
+    ]
+
+-- ---- the fields of rounds
+
+module _ (h : Header) (key : List ℕ) (round : ℕ → Round) (v : ValidRounds h key round) where
+  exchange-at : (r : ℕ) → r < h .rounds → exchangeOf h (fieldsOfRounds h key round .exchanges) r ≡ exchangeBytes (round r)
+  unfolding exchangeOf fieldsOfRounds
+  exchange-at = joined-at (exchangeLength h) (h .rounds) (λ r. exchangeBytes (round r)) (λ r below. length-exchange h (round r) (v .each-round r below))
+
+  commitments-at : (r : ℕ) → r < h .rounds → commitmentsOf h (fieldsOfRounds h key round .commitments) r ≡ round r .commitments
+  unfolding commitmentsOf fieldsOfRounds
+  commitments-at = joined-at (S.commitmentsLength (h .scheme)) (h .rounds) (λ r. round r .commitments) (λ r below. v .each-round r below .commitments-length)
+
+  -- round r of fields that were made of rounds is the one that was given
+  pub round-of : (r : ℕ) → r < h .rounds → roundOf (fieldsOfRounds h key round) r ≡ round r
+  unfolding roundOf fieldsOfRounds
+  round-of r below =
+      let x = exchange-at r below in
+      let w = v .each-round r below in
+      let cs = commitments-at r below in
+      let middle = ap (middleOf h) x ∙ middle-of h (round r) w in
+      let challenge = ap (challengeOf h) x ∙ challenge-of h (round r) w in
+      let reply = ap (replyOf h) x ∙ reply-of h (round r) w in
+      λ i. record { commitments = cs i; middle = middle i; challenge = challenge i; reply = reply i }
+
+  -- and such fields are valid
+  pub rounds-valid : Valid (fieldsOfRounds h key round)
+  unfolding fieldsOfRounds commitmentsLength exchangesLength
+  rounds-valid =
+      let k = values h (v .header-values) in
+      let s = k .sizes-value in
+      record {
+        scheme-value = k .scheme-value;
+        q-value = s .is-field;
+        n-value = (s .n-low, s .n-high);
+        m-value = (s .m-low, s .m-high);
+        rounds-value = k .rounds-value;
+        key-length = v .key-length;
+        commitments-length = length-joined (S.commitmentsLength (h .scheme)) (h .rounds) _ (λ r below. v .each-round r below .commitments-length);
+        exchanges-length = length-joined (exchangeLength h) (h .rounds) _ (λ r below. length-exchange h (round r) (v .each-round r below));
+        key-elements = v .key-elements;
+        each-exchange = λ r below. subst (ValidExchange h) (sym (exchange-at r below)) (valid-exchange-of h (round r) (v .each-round r below));
+      }
+
+-- ---- the rounds of fields
+
+joined-same : (n : ℕ) (part other : ℕ → List ℕ) → ((r : ℕ) → r < n → part r ≡ other r) → joined n part ≡ joined n other
+unfolding joined
+joined-same zero part other same = refl
+joined-same (suc n) part other same = ap₂ (λ (s t : List ℕ). s ++ t) (joined-same n part other (λ r h. same r (omega arith))) (same n (omega arith))
+
+-- a part of a body has its length
+part-long : (each n : ℕ) (l : List ℕ) (r : ℕ) → length l ≡ n * each → r < n → length (take each (drop (r * each) l)) ≡ each
+part-long each n l r long below =
+    let room : (r + 1) * each ≤ n * each = mul-le-mul-right each (omega arith) in
+    length-take-le each (drop (r * each) l) (rw (length-drop (r * each) l) (omega (arith, long, room)))
+
+module _ (f : Fields) (v : Valid f) where
+  exchange-long : (r : ℕ) → r < f .header .rounds → length (exchangeOf (f .header) (f .exchanges) r) ≡ exchangeLength (f .header)
+  unfolding exchangeOf exchangesLength
+  exchange-long r below = part-long (exchangeLength (f .header)) (f .header .rounds) (f .exchanges) r (v .exchanges-length) below
+
+  commitments-whole : joined (f .header .rounds) (λ r. roundOf f r .commitments) ≡ f .commitments
+  unfolding roundOf commitmentsOf commitmentsLength
+  commitments-whole = body-is-parts (S.commitmentsLength (f .header .scheme)) (f .header .rounds) (f .commitments) (v .commitments-length)
+
+  exchanges-whole : joined (f .header .rounds) (λ r. exchangeBytes (roundOf f r)) ≡ f .exchanges
+  unfolding roundOf exchangeBytes exchangeOf exchangesLength
+  exchanges-whole =
+      joined-same (f .header .rounds) _ _ (λ r below. exchange-is-parts (f .header) _ (exchange-long r below)) ∙
+      body-is-parts (exchangeLength (f .header)) (f .header .rounds) (f .exchanges) (v .exchanges-length)
+
+  -- valid fields are those of their rounds
+  pub fields-of : fieldsOfRounds (f .header) (f .key) (roundOf f) ≡ f
+  unfolding fieldsOfRounds
+  fields-of = λ i. record { header = f .header; key = f .key; commitments = commitments-whole i; exchanges = exchanges-whole i }
+
+  valid-round : (r : ℕ) → r < f .header .rounds → ValidRound (f .header) (roundOf f r)
+  unfolding roundOf commitmentsOf commitmentsLength middleOf replyOf vectorsOf exchangeLength S.exchangeLength S.replyLength
+  valid-round r below =
+      let h = f .header in
+      let x = exchangeOf h (f .exchanges) r in
+      let k = S.middleLength (h .scheme) (h .n) (h .m) in
+      let n = S.replyLength (h .scheme) (h .n) (h .m) in
+      let long = exchange-long r below in
+      let valid = v .each-exchange r below in
+      record {
+        commitments-length = part-long (S.commitmentsLength (h .scheme)) (h .rounds) (f .commitments) r (v .commitments-length) below;
+        middle-length = length-take-le k x (omega (arith, long));
+        reply-length = length-take-le n (drop (k + 1) x) (rw (length-drop (k + 1) x) (omega (arith, long)));
+        middle-elements = valid .middle-elements;
+        challenge-value = valid .challenge-value;
+        reply-elements =
+            subst (Elements (h .q)) (sym (take-take (S.vectorsLength (h .scheme) (h .n) (h .m)) n (drop (k + 1) x) (omega arith))) (valid .reply-elements);
+      }
+
+  -- whose messages are valid
+  pub valid-rounds : ValidRounds (f .header) (f .key) (roundOf f)
+  valid-rounds = record { header-values = values-true (f .header) (header-values-of f v); key-length = v .key-length; key-elements = v .key-elements; each-round = valid-round }
