@@ -1,5 +1,5 @@
 -- Document 01, "Field and vectors": the operations that belong to a q. Every definition and contract above names operations through `ops`, so that a
--- field that is not a prime one is supplied here alone.
+-- field that is not a prime one is defined here; its laws are supplied in proofs/Fields.antt, and the code of `field` and `rows` computes them.
 use Prim.Native.Nat.{ℕ, _+_, _-_, _*_, _%_}
 use mathlib.Core.Bool.{Bool, cond, _||_}
 use lib.Dec.{eqb}

@@ -3,9 +3,10 @@ use Prim.Native.Nat.{ℕ, _≤_, _<_}
 use mathlib.Core.Path.{_≡_, refl, sym, ap, ap₂, subst, _∙_}
 use mathlib.Core.List.{List, _++_}
 use native.Mathlib.Omega.{arith}
-use lib.ListN.{length, take, drop}
-use lib.Seq.{take-append-seam, drop-append-seam, getD-take}
+use lib.ListN.{take}
+use lib.Seq.{getD-take}
 use Rattle.slices.specs.Slices.{_!_}
+use Rattle.slices.proofs.Parts.{append-split}
 use Rattle.field.specs.Vector.{vector, slotV, addV}
 use Rattle.field.proofs.Vectors.{vector-at, vector-cong}
 use Rattle.system.specs.System.{qOf, nOf, mOf, opsOf, F, systemRefusal}
@@ -31,12 +32,6 @@ held-vector n f = vector-cong n f _ (λ i h l. sym (vector-at n f i h l))
 same-held : (n : ℕ) (x y : List ℕ) → Held n x → Held n y → take n x ≡ take n y → x ≡ y
 same-held n x y hx hy e =
     hx ∙ vector-cong n _ _ (λ i h l. sym (getD-take n x i 0 h) ∙ ap (λ (k : List ℕ). k ! i) e ∙ getD-take n y i 0 h) ∙ sym hy
-
-append-split : (p q s t : List ℕ) → length p ≡ length q → p ++ s ≡ q ++ t → (p ≡ q) × (s ≡ t)
-append-split p q s t long e = (
-  sym (take-append-seam p s) ∙ ap₂ (λ (n : ℕ) (l : List ℕ). take n l) long e ∙ take-append-seam q t,
-  sym (drop-append-seam p s) ∙ ap₂ (λ (n : ℕ) (l : List ℕ). drop n l) long e ∙ drop-append-seam q t,
-)
 
 -- the first vector, and what stands behind it
 split-vector : (n : ℕ) (x y s t : List ℕ) → n ≤ 96 → Held n x → Held n y → take n x ++ s ≡ take n y ++ t → (x ≡ y) × (s ≡ t)

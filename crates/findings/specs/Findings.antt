@@ -1,5 +1,5 @@
--- Demand 3's first half: when an audit has a finding, and what a finding is. Said of the records' bytes through the layout of a record and the check of a round;
--- the definitions by which the audit is computed are not used.
+-- Demand 3's first half: when an audit has a finding, and what a finding is. Said of the records' bytes. What it shares with the audit are the layout of a record, by
+-- which its rounds are read, and the strings and the check of a round; how the audit searches, compares and answers is not used.
 use Prim.Native.Nat.{ℕ, _+_, _*_, _<_}
 use mathlib.Core.Path.{_≡_}
 use mathlib.Core.Bool.{true, false}

@@ -108,8 +108,3 @@ unless-most test k most h = choice-most test 0 k most (omega arith) (leb→le k 
 pub orElse-most : (a b most : ℕ) → a ≤ most → b ≤ most → (a orElse b) ≤ most
 unfolding _orElse_
 orElse-most a b most ha hb = choice-most (eqb a 0) b a most hb ha
-
-pub firstOf-most : (n : ℕ) (refusal : ℕ → ℕ) (most : ℕ) → ((i : ℕ) → refusal i ≤ most) → firstOf n refusal ≤ most
-unfolding firstOf
-firstOf-most zero refusal most each = omega arith
-firstOf-most (suc n) refusal most each = orElse-most _ _ most (firstOf-most n refusal most each) (each n)
