@@ -117,7 +117,7 @@ openedCard b scheme rounds s =
 
 -- ---- commit(system, lent, out)
 
--- "11, 10; then the system, then 7 against a session; then arguments left to right, all 1, all 2, all 3"
+-- "11, 10; then the system .., then 7 against a session; then arguments left to right, all 1, all 2, all 3"
 unfoldable pub commitRefusal : Card → List ℕ → List ℕ → ℕ → ℕ
 commitRefusal card b lent out =
     let vectors = card .n + card .n + card .m in

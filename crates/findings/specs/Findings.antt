@@ -1,5 +1,5 @@
--- Demand 3's first half: when an audit has a finding, and what a finding is. Said of the records' bytes. What it shares with the audit are the layout of a record, by
--- which its rounds are read, and the strings and the check of a round; how the audit searches, compares and answers is not used.
+-- Demand 3's first half: when an audit has a finding, and what a finding is. Said of the records' bytes. What it shares with the audit are the layout of a
+-- record, by which its rounds are read, and the strings and the check of a round; how the audit searches, compares and answers is not used.
 use Prim.Native.Nat.{ℕ, _+_, _*_, _<_}
 use mathlib.Core.Path.{_≡_}
 use mathlib.Core.Bool.{true, false}
@@ -23,8 +23,8 @@ use Rattle.auditing.specs.Outcome.{Outcome, secret, clash, refused}
 
 -- ---- when
 
--- the record b beside the first, a: "the system and the records are well-formed .., the records are for that scheme, the system has their q, n and m, they have equal
--- header, key and commitments"
+-- the record b beside the first, a: well-formed, of the scheme that the audit is for, with the system's q, n and m and the first record's header, key and
+-- commitments, so that none of 1 to 7 applies
 pub record Auditable (scheme : ℕ) (system a b : List ℕ) : Type 0 where
   pub well-formed : WellFormedRecord b
   pub for-scheme : headerIn b .scheme ≡ scheme
@@ -35,7 +35,7 @@ pub record Auditable (scheme : ℕ) (system a b : List ℕ) : Type 0 where
   pub same-key : fieldsIn a .key ≡ fieldsIn b .key
   pub same-commitments : fieldsIn a .commitments ≡ fieldsIn b .commitments
 
--- "every round in each is accepted"
+-- no round of the record is rejected
 abbrev pub AllAccepted : List ℕ → List ℕ → Type 0
 AllAccepted system b = (r : ℕ) → r < headerIn b .rounds → acceptedRound system b r ≡ true
 
@@ -104,7 +104,7 @@ pub data Each (P : List ℕ → Type 0) : List (List ℕ) → Type 0 where
   none-left : Each P []
   each : (b : List ℕ) (bs : List (List ℕ)) → P b → Each P bs → Each P (b ∷ bs)
 
--- "there is a finding exactly when .."
+-- when there should be a finding: nothing is refused, and some round has the full set
 pub record Due (t : Scheme) : Type 0 where
   pub system-well-formed : WellFormedSystem (t .system)
   pub records-auditable : Each (Auditable (t .scheme) (t .system) (t .first)) (t .first ∷ t .others)
@@ -163,8 +163,8 @@ pub record AreCompared (t : Scheme) (r k : ℕ) : Type 0 where
 abbrev pub Agree : Scheme → ℕ → ℕ → Type 0
 Agree t r k = (x y : List ℕ) (p : Compared t r k x y) → p .left-vectors ≡ p .right-vectors
 
--- "one commitment of the round used with two openings whose vectors differ, both hashing to it, in the order that document 01 gives";
--- "The first pair that differs is the finding"
+-- a true clash: one commitment of the round used with two openings whose vectors differ; "Both hash to commitment k of the round used."; "The first pair that
+-- differs is the finding"
 pub record TrueClash (t : Scheme) (k : ℕ) (x y : List ℕ) : Type 0 where
   pub round : ℕ
   pub used : RoundUsed t round
@@ -179,7 +179,7 @@ pub record TrueClash (t : Scheme) (k : ℕ) (x y : List ℕ) : Type 0 where
 unfoldable pub firstVector : List ℕ → List ℕ → ℕ → List ℕ
 firstVector system b r = slotV (nOf system) 0 (roundReply b r)
 
--- "a vector s with F(s) = v", "v is the records' key"; "If none differs, the finding is s = r0 + r1"
+-- a true secret: a vector s with F(s) = v, "v is the records' key"; "If none differs, the finding is s = r0 + r1"
 pub record TrueSecret (t : Scheme) (s : List ℕ) : Type 0 where
   pub is-vector : IsX (t .system) s
   pub solves : F (t .system) s ≡ keyVector (t .first)

@@ -19,7 +19,7 @@ use Rattle.session.specs.Histories.{Middle, IsDue}
 
 -- ---- the honest session
 
--- "has that system where one is lent, and each message in it that comes from the other end is, unaltered, the one already given there for the same round"
+-- "has that system where one is lent, and each message in it that comes from the other end .. is, unaltered, the one already given there for the same round"
 unfoldable pub Unaltered : Opening → History → Call → Type 0
 Unaltered o h (commit b lent out) = b ≡ o .system
 Unaltered o h (answerAlpha b α out) = (b ≡ o .system) × (h .asked .alphas (h .cardRound) ≡ some α)
