@@ -12,7 +12,7 @@ use lib.ListN.{length, take}
 use borrow.Author.Tests.{ne-eqb}
 use Rattle.field.specs.Vector.{allBelow}
 use Rattle.system.specs.System.{qOf, nOf, mOf, systemRefusal}
-use Rattle.system.proofs.SystemLayout.{at-all-below, sizes-has, sizes-true, accepted}
+use Rattle.system.proofs.SystemLayout.{all-below-at, at-all-below, sizes-has, sizes-true, accepted}
 use Rattle.scheme.specs.Scheme.{challenges, commitmentsLength, replyLength}
 use Rattle.record_form.specs.Record.{Elements}
 use Rattle.protocol.specs.Protocols.{cardThree, r1Of, t1Of}
@@ -264,3 +264,35 @@ module _ (o : Opening) where
         ap (λ (c : Card). replyRefusal c challenge out) (f .is) ∙
         reply-due (heldCard o (o .system) Reply (w .history .cardRound) (f .lent)) challenge out
         (record { due = refl; sizes = sizes-true (qOf (o .system)) (nOf (o .system)) (mOf (o .system)) (k .is-field) (k .n-low, k .n-high) (k .m-low, k .m-high); room = room; value = value })
+
+  -- ---- a call that is not refused has right lengths, elements and challenge
+
+  pub commit-fits : (w : World) (lent : List ℕ) (out : ℕ) → Link o w → commitRefusal (w .card) (o .system) lent out ≡ 0 →
+      (length lent ≡ nOf (o .system) + nOf (o .system) + mOf (o .system) + commitmentsLength (o .scheme)) × (out ≡ commitmentsLength (o .scheme)) ×
+      Elements (qOf (o .system)) (take (nOf (o .system) + nOf (o .system) + mOf (o .system)) lent)
+  unfolding freshCard cardWith openedCard Known
+  commit-fits w lent out l none =
+      let k = commit-taken (w .card) (o .system) lent out none in
+      let f : Fresh (w .history .given) (w .card) (w .history .cardRound) = known-at _ _ _ _ (l .card-state) 1 (k .due) in (
+        k .lent-length ∙ ap (λ (c : Card). c .n + c .n + c .m + commitmentsLength (c .scheme)) (f .is),
+        k .room ∙ ap (λ (c : Card). commitmentsLength (c .scheme)) (f .is),
+        all-below-at _ _ (lends-of (w .card) (w .history .cardRound) lent (f .is) (k .elements)),
+      )
+
+  pub answer-fits : (w : World) (α out : ℕ) → Link o w → alphaRefusal (w .card) (o .system) α out ≡ 0 →
+      (out ≡ nOf (o .system) + mOf (o .system)) × (α < qOf (o .system))
+  unfolding heldCard cardWith openedCard Known
+  answer-fits w α out l none =
+      let k = alpha-taken (w .card) (o .system) α out none in
+      let f : Committed (w .history .given) (w .card) (w .history .cardRound) = known-at _ _ _ _ (l .card-state) 2 (k .due) in
+      let q : w .card .q ≡ qOf (o .system) = ap (λ (c : Card). c .q) (f .is) in
+      (k .room ∙ ap (λ (c : Card). c .n + c .m) (f .is), omega (arith, k .element, q))
+
+  pub reply-fits : (w : World) (challenge out : ℕ) → Link o w → replyRefusal (w .card) challenge out ≡ 0 →
+      (out ≡ replyLength (o .scheme) (nOf (o .system)) (mOf (o .system))) × (challenge < challenges (o .scheme))
+  unfolding heldCard cardWith openedCard Known
+  reply-fits w challenge out l none =
+      let k = reply-taken (w .card) challenge out none in
+      let f : Ready (w .history .given) (w .history .asked) (w .card) (w .history .cardRound) = known-at _ _ _ _ (l .card-state) 3 (k .due) in
+      let most : challenges (w .card .scheme) ≡ challenges (o .scheme) = ap (λ (c : Card). challenges (c .scheme)) (f .is) in
+      (k .room ∙ ap (λ (c : Card). replyLength (c .scheme) (c .n) (c .m)) (f .is), omega (arith, k .value, most))

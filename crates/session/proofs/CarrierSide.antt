@@ -1,16 +1,18 @@
 -- The carrier's calls along an honest session: each leaves the two ends linked, and none is refused when it is due. Assumes nothing.
 use Prim.Native.Nat.{ℕ, _+_, _≤_, _<_}
-use mathlib.Core.Path.{_≡_, refl}
+use mathlib.Core.Path.{_≡_, refl, sym, ap, _∙_}
 use mathlib.Core.List.{List}
 use mathlib.Core.Option.{some}
 use native.Mathlib.Nat.{lt-of-not-le, le-antisymm, lt-irrefl}
 use native.Mathlib.Decide.{decLe}
 use native.Mathlib.Omega.{arith}
+use lib.Dec.{ltb}
 use lib.ListN.{length, take}
-use borrow.Author.Tests.{eq-eqb, lt-ltb}
-use Rattle.refusal.proofs.Refusals.{first-zero, both-zero, unless-holds}
+use borrow.Author.Tests.{eq-eqb, lt-ltb, ltb-true}
+use Rattle.refusal.proofs.Refusals.{first-zero, later-zero, test-holds, equal-holds, both-zero, unless-holds}
+use Rattle.field.specs.Vector.{allBelow}
 use Rattle.system.specs.System.{qOf, nOf, mOf, systemRefusal, lentRefusal}
-use Rattle.system.proofs.SystemLayout.{at-all-below, sizes-has}
+use Rattle.system.proofs.SystemLayout.{all-below-at, at-all-below, sizes-has}
 use Rattle.scheme.specs.Scheme.{challenges, commitmentsLength, vectorsLength, replyLength}
 use Rattle.record_form.specs.Record.{Elements}
 use Rattle.session_state.proofs.States.{state-due, due-state}
@@ -128,3 +130,45 @@ module _ (o : Opening) where
       (both-zero _ _ (due-state 5 5 refl (λ e. absurd (omega arith)))
       (both-zero _ _ (both-zero _ _ good (unless-holds _ 7 (sizes-has (o .system) _ _ _ refl refl refl)))
       (both-zero _ _ (unless-holds _ 2 (eq-eqb (length reply) (replyLength (o .scheme) (nOf (o .system)) (mOf (o .system))) long)) (unless-holds _ 3 (at-all-below _ _ elements)))))
+
+  -- ---- a call that is not refused has right lengths, elements and challenge
+
+  pub commitments-fit : (w : World) (c : List ℕ) → Link o w → commitmentsRefusal (w .carrier) c ≡ 0 → length c ≡ commitmentsLength (o .scheme)
+  unfolding commitmentsRefusal phaseNumber carrierAt carrierWith openedCarrier
+  commitments-fit w c l none =
+      let is = is-at w l TakeCommitments (λ e. absurd (omega arith)) (state-due _ 1 (first-zero _ _ none)) .3 in
+      equal-holds (length c) (commitmentsLength (o .scheme)) 2 tt (later-zero _ _ (ap (λ (k : Carrier). commitmentsRefusal k c) (sym is) ∙ none))
+
+  pub alpha-fits : (w : World) (α : ℕ) → Link o w → alphaRefusal (w .carrier) α ≡ 0 → α < qOf (o .system)
+  unfolding alphaRefusal phaseNumber carrierAt carrierWith openedCarrier
+  alpha-fits w α l none =
+      let is = is-at w l SetAlpha (λ e. absurd (omega arith)) (state-due _ 2 (first-zero _ _ none)) .3 in
+      ltb-true α (qOf (o .system)) (test-holds (ltb α (qOf (o .system))) 3 tt (later-zero _ _ (ap (λ (k : Carrier). alphaRefusal k α) (sym is) ∙ none)))
+
+  pub middle-fits : (w : World) (m : List ℕ) → Link o w → middleRefusal (w .carrier) m ≡ 0 →
+      (length m ≡ nOf (o .system) + mOf (o .system)) × Elements (qOf (o .system)) m
+  unfolding middleRefusal phaseNumber carrierAt carrierWith openedCarrier
+  middle-fits w m l none =
+      let is = is-at w l TakeMiddle (λ e. absurd (omega arith)) (state-due _ 3 (first-zero _ _ none)) .3 in
+      let rest = later-zero _ _ (ap (λ (k : Carrier). middleRefusal k m) (sym is) ∙ none) in (
+        equal-holds (length m) (nOf (o .system) + mOf (o .system)) 2 tt (first-zero _ _ rest),
+        all-below-at _ _ (test-holds (allBelow (qOf (o .system)) m) 3 tt (later-zero _ _ rest)),
+      )
+
+  pub challenge-fits : (w : World) (challenge : ℕ) → Link o w → challengeRefusal (w .carrier) challenge ≡ 0 → challenge < challenges (o .scheme)
+  unfolding challengeRefusal phaseNumber carrierAt carrierWith openedCarrier
+  challenge-fits w challenge l none =
+      let is = is-at w l SetChallenge (λ e. absurd (omega arith)) (state-due _ 4 (first-zero _ _ none)) .3 in
+      ltb-true challenge (challenges (o .scheme))
+      (test-holds (ltb challenge (challenges (o .scheme))) 4 tt (later-zero _ _ (ap (λ (k : Carrier). challengeRefusal k challenge) (sym is) ∙ none)))
+
+  pub reply-fits : (w : World) (b reply : List ℕ) → Link o w → replyRefusal (w .carrier) b reply ≡ 0 →
+      (length reply ≡ replyLength (o .scheme) (nOf (o .system)) (mOf (o .system))) ×
+      Elements (qOf (o .system)) (take (vectorsLength (o .scheme) (nOf (o .system)) (mOf (o .system))) reply)
+  unfolding replyRefusal phaseNumber carrierAt carrierWith openedCarrier
+  reply-fits w b reply l none =
+      let is = is-at w l TakeReply (λ e. absurd (omega arith)) (state-due _ 5 (first-zero _ _ none)) .3 in
+      let rest = later-zero _ _ (later-zero _ _ (ap (λ (k : Carrier). replyRefusal k b reply) (sym is) ∙ none)) in (
+        equal-holds (length reply) (replyLength (o .scheme) (nOf (o .system)) (mOf (o .system))) 2 tt (first-zero _ _ rest),
+        all-below-at _ _ (test-holds (allBelow (qOf (o .system)) (take (vectorsLength (o .scheme) (nOf (o .system)) (mOf (o .system))) reply)) 3 tt (later-zero _ _ rest)),
+      )

@@ -183,6 +183,18 @@ module _ (o : Opening) (w : World) where
       from (Ca.accepted over all e) full = ap (λ (c : Carrier). c .phase) e
       from (Ca.rejected k over below all last e) full = absurd (omega (arith, rejected-count k over all last, full, below))
 
+  rejected-is : CarrierHistory o w → CarrierState o (w .history .asked) (w .history .taken) (w .history .judged) (w .carrier) (w .history .carrierRound) →
+      RejectedOne (w .history) → w .carrier ≡ CarrierCalls.closedCarrier Rejected (acceptCount (w .history .judged) (w .history .carrierRound))
+  rejected-is x (Ca.going p below all progress) (k, j, e, is-false) = absurd (none-rejected _ _ all (x .no-judgements) k j e is-false)
+  rejected-is x (Ca.accepted over all is) (k, j, e, is-false) = absurd (none-rejected _ _ all (x .no-judgements) k j e is-false)
+  rejected-is x (Ca.rejected k over below all last e) one = e ∙ ap (CarrierCalls.closedCarrier Rejected) (sym (rejected-count k over all last))
+
+  accepted-is : CarrierState o (w .history .asked) (w .history .taken) (w .history .judged) (w .carrier) (w .history .carrierRound) →
+      AcceptedAll o (w .history) → w .carrier ≡ CarrierCalls.closedCarrier Accepted (o .rounds)
+  accepted-is (Ca.going p below all progress) full = absurd (omega (arith, all-count _ _ all, full, below))
+  accepted-is (Ca.accepted over all e) full = e
+  accepted-is (Ca.rejected k over below all last e) full = absurd (omega (arith, rejected-count k over all last, full, below))
+
   -- ---- the call that is due
 
   carrier-order : (p : CarrierPhase) → (o .scheme ≡ 3 → Next (CarrierMade (w .history)) carrierThree p) →
@@ -359,6 +371,8 @@ module _ (o : Opening) (w : World) where
         count = count-is o w x;
         rejected-exactly = when-rejected o w x;
         accepted-exactly = when-accepted o w x;
+        rejected-keeps = rejected-is o w x (x .state);
+        accepted-keeps = accepted-is o w (x .state);
         phase-is = carrier-phase-is o w x;
         state-refusals = carrier-refusals x;
       }

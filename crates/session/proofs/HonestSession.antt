@@ -1,7 +1,8 @@
 -- The claim about whole honest sessions: one theorem over the list of calls. Assumes nothing.
 use Prim.Native.Nat.{ℕ, _≤_}
 use mathlib.Core.Path.{_≡_, refl}
-use mathlib.Core.List.{List, [], _∷_}
+use mathlib.Core.Bool.{true}
+use mathlib.Core.List.{List, [], _∷_, _++_}
 use native.Mathlib.Nat.{not-suc-le-zero, le-refl}
 use native.Mathlib.Omega.{arith}
 use lib.Dec.{leb}
@@ -18,7 +19,7 @@ use Rattle.carrier_state.specs.declared.session.CarrierPhase.the-variants.{Take
 use Rattle.carrier_state.specs.Carrier as CarrierCalls
 use Rattle.session.specs.Session.{Opening, Call, commit, answerAlpha, reply, takeCommitments, setAlpha, takeMiddle, setChallenge, takeReply, World, opened, refusal, effect, step, after}
 use Rattle.session.specs.Histories.{Place, on-card, on-carrier, placeOf, IsDue}
-use Rattle.session.specs.Honest.{Unaltered, Honest, Fitting, Accepts, Ended, DueGoes, Holds}
+use Rattle.session.specs.Honest.{Unaltered, Honest, Fitting, RoundAccepted, Accepts, Ended, DueGoes, Holds}
 use Rattle.session.proofs.Logs.{none-given}
 use Rattle.session.proofs.CarrierHistory as Ca
 use Rattle.session.proofs.CarrierHistory.{CarrierState}
@@ -27,7 +28,7 @@ use Rattle.session.proofs.CardHistory.{card-opens, CardGoes}
 use Rattle.session.proofs.Histories.{card-started, carrier-started, card-number, carrier-number, stepped}
 use Rattle.session.proofs.States as St
 use Rattle.session.proofs.States.{Link}
-use Rattle.session.proofs.CardSide.{commit-linked, answer-linked, reply-linked, commit-goes, answer-goes, reply-goes}
+use Rattle.session.proofs.CardSide.{commit-linked, answer-linked, reply-linked, commit-goes, answer-goes, reply-goes, commit-fits, answer-fits, reply-fits}
 use Rattle.session.proofs.CarrierSide as C
 use Rattle.session.proofs.Verdicts as Verdicts
 use Rattle.session.proofs.Verdicts.{Opens, of-carrier}
@@ -115,6 +116,20 @@ module _ (o : Opening) (k : Opens o) where
   due-goes : (w : World) (c : Call) → Link o w → DueGoes o w c
   due-goes w c l due fitting = phase-goes w c l (at-phase o w c l due) fitting
 
+  -- and one that is not refused has what is asked of it
+  fits-each : (w : World) (c : Call) → Link o w → refusal w c ≡ 0 → Unaltered o (w .history) c → Fitting o c
+  unfolding refusal Unaltered Fitting
+  fits-each w (commit b lent out) l none e =
+      let (long, room, elements) = commit-fits o w lent out l (rw e at none) in
+      (e, long, room, elements)
+  fits-each w (answerAlpha b α out) l none e = let (room, element) = answer-fits o w α out l (rw (e .0) at none) in (e .0, room, element)
+  fits-each w (reply challenge out) l none e = reply-fits o w challenge out l none
+  fits-each w (takeCommitments c) l none e = C.commitments-fit o w c l none
+  fits-each w (setAlpha α) l none e = C.alpha-fits o w α l none
+  fits-each w (takeMiddle m) l none e = C.middle-fits o w m l none
+  fits-each w (setChallenge challenge) l none e = C.challenge-fits o w challenge l none
+  fits-each w (takeReply b r) l none e = let (long, elements) = C.reply-fits o w b r l none in (e .0, long, elements)
+
   accepts-each : (w : World) (c : Call) → Link o w → (refusal w c ≡ 0 → Unaltered o (w .history) c) → Accepts o w c
   unfolding refusal Unaltered Accepts
   accepts-each w (commit b lent out) l honest = tt
@@ -168,6 +183,40 @@ module _ (o : Opening) (k : Opens o) where
 pub honest-session : (o : Opening) → CardCalls.openRefusal (o .system) (o .scheme) (o .rounds) (o .key) (o .secret) ≡ 0 →
     CarrierCalls.openRefusal (o .system) (o .scheme) (o .rounds) (o .key) ≡ 0 → (calls : List Call) → Honest o (opened o) calls → Holds o (opened o) calls
 honest-session o card-open carrier-open calls honest = let k = opens o card-open in holds o k calls (opened o) (start o k) honest
+
+-- what `Holds` says of each call, at any place of the list
+at-each : (o : Opening) (w : World) (before : List Call) (c : Call) (later : List Call) → Holds o w (before ++ c ∷ later) →
+    DueGoes o (after w before) c × Accepts o (after w before) c
+unfolding Holds after
+at-each o w [] c later (now-ended, due, accepts, rest) = (due, accepts)
+at-each o w (b ∷ before) c later (now-ended, due, accepts, rest) = at-each o (step w b) before c later rest
+
+-- an honest list is honest up to any call, and that call is unaltered where it is not refused
+honest-front : (o : Opening) (w : World) (before : List Call) (c : Call) (later : List Call) → Honest o w (before ++ c ∷ later) →
+    Honest o w before × (refusal (after w before) c ≡ 0 → Unaltered o (after w before .history) c)
+unfolding Honest after
+honest-front o w [] c later (same, rest) = (tt, same)
+honest-front o w (b ∷ before) c later (same, rest) = let front = honest-front o (step w b) before c later rest in ((same, front .0), front .1)
+
+module _ (o : Opening) (card-open : CardCalls.openRefusal (o .system) (o .scheme) (o .rounds) (o .key) (o .secret) ≡ 0)
+    (carrier-open : CarrierCalls.openRefusal (o .system) (o .scheme) (o .rounds) (o .key) ≡ 0) (before later : List Call) where
+  -- in every round: a call made when due, with right lengths, elements and challenge, is not refused
+  pub each-due : (c : Call) → Honest o (opened o) (before ++ c ∷ later) → IsDue o (after (opened o) before .history) c → Fitting o c →
+      refusal (after (opened o) before) c ≡ 0
+  each-due c honest = at-each o (opened o) before c later (honest-session o card-open carrier-open _ honest) .0
+
+  -- and of the calls that are not refused this is asked, and no more
+  pub each-fitting : (c : Call) → Honest o (opened o) (before ++ c ∷ later) → refusal (after (opened o) before) c ≡ 0 → Fitting o c
+  each-fitting c honest none =
+      let k = opens o card-open in
+      let front = honest-front o (opened o) before c later honest in
+      fits-each o k (after (opened o) before) c (linked-after o k before (opened o) (start o k) (front .0)) none (front .1 none)
+
+  -- in every round: a reply that is taken is accepted, by the scheme's check
+  pub each-reply : (b r : List ℕ) → Honest o (opened o) (before ++ takeReply b r ∷ later) → refusal (after (opened o) before) (takeReply b r) ≡ 0 →
+      (CarrierCalls.acceptsReply (after (opened o) before .carrier) b r ≡ true) × RoundAccepted o (after (opened o) before .history) r
+  unfolding Accepts
+  each-reply b r honest = at-each o (opened o) before (takeReply b r) later (honest-session o card-open carrier-open _ honest) .1
 
 -- a challenge is set only while both ends are in the same round: that need not be asked of an honest list
 pub same-round : (o : Opening) → CardCalls.openRefusal (o .system) (o .scheme) (o .rounds) (o .key) (o .secret) ≡ 0 → (calls : List Call) →

@@ -1,11 +1,11 @@
 -- An opening is refused at either end exactly when document 01 has a number for it, and zeros may be drawn for every round. Assumes nothing.
 use Prim.Native.Nat.{ℕ, zero, suc, _+_, _≤_, _<_}
-use mathlib.Core.Path.{_≡_, refl, sym}
+use mathlib.Core.Path.{_≡_, refl, sym, ap}
 use mathlib.Core.Bool.{Bool, true, false}
 use mathlib.Core.Logic.{_⊎_, inl, inr, ⊎-elim, _↔_}
 use native.Mathlib.Omega.{arith}
 use lib.Dec.{leb, eqb}
-use lib.ListN.{length, take, replicate, length-take, length-replicate, getD-replicate}
+use lib.ListN.{length, take, length-take, length-replicate, getD-replicate}
 use lib.Seq.{getD-take}
 use borrow.Author.Tests.{eq-eqb, le-leb, leb-true, eqb-true, ne-eqb}
 use Rattle.slices.specs.Slices.{zeros}
@@ -22,7 +22,7 @@ use Rattle.card_state.specs.Card as CardCalls
 use Rattle.card_state.proofs.Taken.{open-taken, open-due}
 use Rattle.carrier_state.specs.Carrier as CarrierCalls
 use Rattle.session.specs.Session.{Opening}
-use Rattle.session.specs.Played.{CarrierOpenable, Openable, Fits, zeroDraw, AllFit}
+use Rattle.session.specs.Played.{CarrierOpenable, Openable, Draw, Fits, zeroDraw, drawsFrom, AllFit}
 use Rattle.session.proofs.CarrierHistory.{by-scheme}
 
 -- ---- scheme and N
@@ -144,7 +144,14 @@ zeros-fit o k =
       challenge-value = no-challenge-wrong (o .scheme);
     }
 
-pub all-zeros-fit : (o : Opening) → Openable o → (rounds : ℕ) → AllFit o (replicate rounds (zeroDraw o))
-unfolding AllFit
-all-zeros-fit o k zero = tt
-all-zeros-fit o k (suc rounds) = (zeros-fit o k, all-zeros-fit o k rounds)
+-- ---- whatever fits may be drawn
+
+pub all-fit : (o : Opening) (draw : ℕ → Draw) → ((r : ℕ) → Fits o (draw r)) → (r n : ℕ) → AllFit o (drawsFrom draw r n)
+unfolding AllFit drawsFrom
+all-fit o draw fit r zero = tt
+all-fit o draw fit r (suc n) = (fit r, all-fit o draw fit (r + 1) n)
+
+pub length-draws : (draw : ℕ → Draw) (r n : ℕ) → length (drawsFrom draw r n) ≡ n
+unfolding drawsFrom
+length-draws draw r zero = refl
+length-draws draw r (suc n) = ap suc (length-draws draw (r + 1) n)

@@ -7,14 +7,14 @@ use mathlib.Core.List.{List, [], _∷_, _++_}
 use mathlib.Core.Option.{some}
 use native.Mathlib.Omega.{arith}
 use lib.Dec.{eqb}
-use lib.ListN.{length, take, replicate, length-replicate}
+use lib.ListN.{length, take}
 use borrow.Author.Tests.{ne-eqb}
 use Rattle.slices.specs.Slices.{zeros}
 use Rattle.refusal.proofs.Refusals.{kept-accepted}
 use Rattle.field.specs.Vector.{allBelow}
 use Rattle.system.specs.System.{qOf, nOf, mOf}
 use Rattle.system.proofs.SystemLayout.{all-below-at, at-all-below}
-use Rattle.scheme.specs.Scheme.{commitmentsLength, vectorsLength, rhosLength, replyLength}
+use Rattle.scheme.specs.Scheme.{challenges, commitmentsLength, vectorsLength, rhosLength, replyLength}
 use Rattle.record_form.specs.Record.{Elements}
 use Rattle.exchange.proofs.Formed.{Lends}
 use Rattle.honest.proofs.Honest.{three-commitments-long, three-reply-long, three-reply-below, middle-long, middle-elements, five-commitments-long, five-reply-long, five-reply-below}
@@ -31,7 +31,7 @@ use Rattle.carrier_state.specs.Carrier as CarrierCalls
 use Rattle.carrier_state.specs.Carrier.{carrierWith, openedCarrier, withAlpha, withMiddle, withChallenge, judgedCarrier}
 use Rattle.session.specs.Session.{Opening, Call, Given, Asked, Taken, Judgement, Log, World, opened, refusal, effect, step, after}
 use Rattle.session.specs.Honest.{Unaltered, Honest, Fitting, Ended, Holds}
-use Rattle.session.specs.Played.{Openable, Draw, Fits, zeroDraw, AllFit, fresh, lending, committing, taking, setting, answering, taking-middle, asking, replying, judging, threeCalls, fiveCalls, exchanging, sessionCalls, aheadFrom, aheadCalls, Plays}
+use Rattle.session.specs.Played.{Openable, Draw, Fits, zeroDraw, drawsFrom, AllFit, fresh, lending, committing, taking, setting, answering, taking-middle, asking, replying, judging, threeCalls, fiveCalls, exchanging, sessionCalls, aheadFrom, aheadCalls, Plays}
 use Rattle.session.proofs.States as St
 use Rattle.session.proofs.States.{Link}
 use Rattle.session.proofs.Logs.{put-there}
@@ -39,7 +39,7 @@ use Rattle.session.proofs.CardSide.{sent-commitments-is, sent-middle-is
 use Rattle.session.proofs.CardHistory.{freshCard, heldCard, card-opens, committed-is, replied-next}
 use Rattle.session.proofs.CarrierHistory.{by-scheme, carrierAt, carrier-opens, took-commitments, judged-next}
 use Rattle.session.proofs.Verdicts.{Opens, reply-accepted}
-use Rattle.session.proofs.Openings.{card-opens-for, carrier-opens-for, all-zeros-fit}
+use Rattle.session.proofs.Openings.{card-opens-for, carrier-opens-for, zeros-fit, all-fit, length-draws}
 use Rattle.session.proofs.HonestSession.{opens, start, AtPhase, effect-linked, phase-goes, honest-session}
 
 -- ---- one call
@@ -372,10 +372,23 @@ played-accepted o openable calls played =
     let holds = honest-session o (card-opens-for o openable) (carrier-opens-for o (openable .for-carrier)) calls (plays-honest o (opened o) calls played) in
     at-the-end o (opened o) calls holds (taken-all o (opened o) calls played)
 
--- every opening that document 01 lets through has a session, with the card a round ahead or not: of zeros
-pub some-session : (o : Opening) → Openable o →
-    Plays o (opened o) (sessionCalls o (replicate (o .rounds) (zeroDraw o))) × Plays o (opened o) (aheadCalls o (replicate (o .rounds) (zeroDraw o)))
-some-session o openable =
-    let all = length-replicate (o .rounds) (zeroDraw o) in
-    let fit = all-zeros-fit o openable (o .rounds) in
+-- "The random elements, α and the challenges are any.": whatever is drawn, round by round, with right lengths, elements and challenge, its session exists, with
+-- the card a round ahead or not
+pub any-session : (o : Opening) → Openable o → (draw : ℕ → Draw) →
+    ((r : ℕ) → length (draw r .lent) ≡ nOf (o .system) + nOf (o .system) + mOf (o .system) + commitmentsLength (o .scheme)) →
+    ((r : ℕ) → Elements (qOf (o .system)) (take (nOf (o .system) + nOf (o .system) + mOf (o .system)) (draw r .lent))) →
+    ((r : ℕ) → (o .scheme ≡ 3 → ⊥) → draw r .α < qOf (o .system)) → ((r : ℕ) → draw r .challenge < challenges (o .scheme)) →
+    Plays o (opened o) (sessionCalls o (drawsFrom draw 0 (o .rounds))) × Plays o (opened o) (aheadCalls o (drawsFrom draw 0 (o .rounds)))
+any-session o openable draw long elements alpha value =
+    let all = length-draws draw 0 (o .rounds) in
+    let fit =
+    all-fit o draw (λ r. record { lent-length = long r; lent-elements = elements r; alpha-element = alpha r; challenge-value = value r }) 0 (o .rounds) in
     (whole-session o openable _ all fit, ahead-session o openable _ all fit)
+
+-- so every opening that document 01 lets through has both kinds of session: of zeros
+pub some-session : (o : Opening) → Openable o →
+    let zeros-drawn = drawsFrom (λ r. zeroDraw o) 0 (o .rounds) in
+    Plays o (opened o) (sessionCalls o zeros-drawn) × Plays o (opened o) (aheadCalls o zeros-drawn)
+some-session o openable =
+    let fit = zeros-fit o openable in
+    any-session o openable (λ r. zeroDraw o) (λ r. fit .lent-length) (λ r. fit .lent-elements) (λ r. fit .alpha-element) (λ r. fit .challenge-value)

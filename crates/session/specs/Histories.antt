@@ -172,6 +172,9 @@ pub record CarrierClaim (o : Opening) (w : World) : Type 0 where
   pub count : w .carrier .accepted ≡ acceptCount (w .history .judged) (w .history .carrierRound)
   pub rejected-exactly : (w .carrier .phase ≡ CarrierPhases.Closed Rejected) ↔ RejectedOne (w .history)
   pub accepted-exactly : (w .carrier .phase ≡ CarrierPhases.Closed Accepted) ↔ AcceptedAll o (w .history)
+  -- "The closed session keeps the verdict and the count of accepted rounds. Its other numbers are zero."
+  pub rejected-keeps : RejectedOne (w .history) → w .carrier ≡ CarrierCalls.closedCarrier Rejected (acceptCount (w .history .judged) (w .history .carrierRound))
+  pub accepted-keeps : AcceptedAll o (w .history) → w .carrier ≡ CarrierCalls.closedCarrier Accepted (o .rounds)
   -- "The next call due is held as one of a few named phases."
   pub phase-is : (phase : CarrierPhase) → (CarrierCalls.phaseNumber phase ≡ 0 → ⊥) → (w .carrier .phase ≡ phase) ↔ DueAt o (w .history) (on-carrier phase)
   pub state-refusals : (c : Call) → (OnCard (placeOf c) → ⊥) → StateRefusals o w c

@@ -30,6 +30,12 @@ Unaltered o h (takeMiddle middle) = h .given .middles (h .carrierRound) ≡ some
 Unaltered o h (setChallenge challenge) = Unit
 Unaltered o h (takeReply b r) = (b ≡ o .system) × (h .given .replies (h .carrierRound) ≡ some r)
 
+-- "The random elements, α and the challenges are any.": the calls that draw them
+pub data Drawn (o : Opening) : Call → Type 0 where
+  any-lent : (lent : List ℕ) (out : ℕ) → Drawn o (commit (o .system) lent out)
+  any-alpha : (α : ℕ) → Drawn o (setAlpha α)
+  any-challenge : (challenge : ℕ) → Drawn o (setChallenge challenge)
+
 -- "A refused call may stand anywhere and have any arguments."
 unfoldable pub Honest : Opening → World → List Call → Type 0
 Honest o w [] = Unit

@@ -1,7 +1,7 @@
 -- A session played through: the list of calls in which none is refused, from the openings to the taking of round N's reply. There is one for every opening
 -- that document 01 lets through and all that may be drawn (`whole-session`), and zeros may be drawn (`zeros-fit`), so the claim about honest sessions speaks of
 -- whole sessions of each length.
-use Prim.Native.Nat.{ℕ, _+_, _≤_, _<_}
+use Prim.Native.Nat.{ℕ, zero, suc, _+_, _≤_, _<_}
 use mathlib.Core.Path.{_≡_}
 use mathlib.Core.Bool.{cond}
 use mathlib.Core.Logic.{_⊎_}
@@ -51,6 +51,11 @@ pub record Fits (o : Opening) (d : Draw) : Type 0 where
 -- nothing but zeros
 unfoldable pub zeroDraw : Opening → Draw
 zeroDraw o = record { lent = zeros (nOf (o .system) + nOf (o .system) + mOf (o .system) + commitmentsLength (o .scheme)); α = 0; challenge = 0 }
+
+-- n draws, those of rounds r, r + 1 and so on
+unfoldable pub drawsFrom : (ℕ → Draw) → ℕ → ℕ → List Draw
+drawsFrom draw r zero = []
+drawsFrom draw r (suc n) = draw r ∷ drawsFrom draw (r + 1) n
 
 -- each of them, a round each
 unfoldable pub AllFit : Opening → List Draw → Type 0
