@@ -195,7 +195,7 @@ at-each o w (b ∷ before) c later (now-ended, due, accepts, rest) = at-each o (
 honest-front : (o : Opening) (w : World) (before : List Call) (c : Call) (later : List Call) → Honest o w (before ++ c ∷ later) →
     Honest o w before × (refusal (after w before) c ≡ 0 → Unaltered o (after w before .history) c)
 unfolding Honest after
-honest-front o w [] c later (same, rest) = (tt, same)
+honest-front o w [] c later (same, rest) = (tt, λ none. same (omega (arith, none)))
 honest-front o w (b ∷ before) c later (same, rest) = let front = honest-front o (step w b) before c later rest in ((same, front .0), front .1)
 
 module _ (o : Opening) (card-open : CardCalls.openRefusal (o .system) (o .scheme) (o .rounds) (o .key) (o .secret) ≡ 0)
