@@ -74,17 +74,17 @@ pub extern "C" fn canvasfox_polar<'a>(
 pub extern "C" fn canvasfox_simulate<'a>(
     system: &'a [u8],
     v: &'a [u8],
-    predicted: u8,
+    unanswered: u8,
     challenge: u8,
     lent: &'a [u8],
     commitments: &mut [u8],
     reply: &mut [u8],
 ) -> u8
-    ensures { λ r. ⌜ (r ≡ simulateRefusal (now (system .entry)) (now (v .entry)) predicted challenge (now (lent .entry)) (length (now (commitments .entry))) (length (now (reply .entry))))
-        × (now (commitments .exit) ≡ kept r (now (commitments .entry)) (simulatedCommitments (now (system .entry)) (now (v .entry)) predicted (now (lent .entry))))
-        × (now (reply .exit) ≡ kept r (now (reply .entry)) (simulatedReply (now (system .entry)) (now (v .entry)) predicted challenge (now (lent .entry)))) ⌝ }
+    ensures { λ r. ⌜ (r ≡ simulateRefusal (now (system .entry)) (now (v .entry)) unanswered challenge (now (lent .entry)) (length (now (commitments .entry))) (length (now (reply .entry))))
+        × (now (commitments .exit) ≡ kept r (now (commitments .entry)) (simulatedCommitments (now (system .entry)) (now (v .entry)) unanswered (now (lent .entry))))
+        × (now (reply .exit) ≡ kept r (now (reply .entry)) (simulatedReply (now (system .entry)) (now (v .entry)) unanswered challenge (now (lent .entry)))) ⌝ }
 {
-    simulator::simulate(system, v, predicted, challenge, lent, commitments, reply)
+    simulator::simulate(system, v, unanswered, challenge, lent, commitments, reply)
 }
 
 // A record's header and where its bodies stand.

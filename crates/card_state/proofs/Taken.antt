@@ -9,8 +9,8 @@ use borrow.Author.Tests.{eq-eqb, lt-ltb, ltb-true}
 use Rattle.slices.specs.Slices.{same}
 use Rattle.slices.proofs.Sameness.{same-true, same-by}
 use Rattle.refusal.proofs.Refusals.{first-zero, later-zero, test-holds, equal-holds, both-zero, unless-holds}
-use Rattle.field.specs.Vector.{held, allBelow}
-use Rattle.system.specs.System.{qOf, nOf, mOf, areSizes, hasSizes, systemRefusal, lentRefusal, F}
+use Rattle.field.specs.Vector.{asVector, allBelow}
+use Rattle.system.specs.System.{qOf, nOf, mOf, areSizes, hasSizes, systemRefusal, systemAgainst, F}
 use Rattle.scheme.specs.Scheme.{isScheme, isRounds, challenges, commitmentsLength, replyLength}
 use Rattle.session_state.proofs.States.{state-due, due-state}
 use Rattle.card_state.specs.declared.session.Card.{Card}
@@ -26,7 +26,7 @@ pub record OpenTaken (b : List ℕ) (scheme rounds : ℕ) (v s : List ℕ) : Typ
   pub secret-length : length s ≡ nOf b
   pub key-elements : allBelow (qOf b) v ≡ true
   pub secret-elements : allBelow (qOf b) s ≡ true
-  pub key : F b (held s) ≡ held v
+  pub key : F b (asVector s) ≡ asVector v
 
 pub open-taken : (b : List ℕ) (scheme rounds : ℕ) (v s : List ℕ) → openRefusal b scheme rounds v s ≡ 0 → OpenTaken b scheme rounds v s
 unfolding openRefusal openForm
@@ -45,7 +45,7 @@ open-taken b scheme rounds v s none =
       secret-length = equal-holds (length s) (nOf b) 2 tt (first-zero _ _ after-key);
       key-elements = test-holds (allBelow (qOf b) v) 3 tt (first-zero _ _ after-secret);
       secret-elements = test-holds (allBelow (qOf b) s) 3 tt (later-zero _ _ after-secret);
-      key = same-true _ _ (test-holds (same (F b (held s)) (held v)) 5 tt (later-zero _ _ none));
+      key = same-true _ _ (test-holds (same (F b (asVector s)) (asVector v)) 5 tt (later-zero _ _ none));
     }
 
 -- "An opening to which no numbered refusal applies isn't refused."
@@ -58,7 +58,7 @@ open-due b scheme rounds v s k =
     (both-zero _ _ (unless-holds _ 1 (k .rounds-value))
     (both-zero _ _ (unless-holds _ 2 (eq-eqb (length v) (mOf b) (k .key-length)))
     (both-zero _ _ (unless-holds _ 2 (eq-eqb (length s) (nOf b) (k .secret-length))) (both-zero _ _ (unless-holds _ 3 (k .key-elements)) (unless-holds _ 3 (k .secret-elements))))))))
-    (unless-holds _ 5 (same-by (F b (held s)) (held v) (k .key)))
+    (unless-holds _ 5 (same-by (F b (asVector s)) (asVector v) (k .key)))
 
 -- ---- commit
 
@@ -71,7 +71,7 @@ pub record CommitTaken (card : Card) (b lent : List ℕ) (out : ℕ) : Type 0 wh
   pub elements : allBelow (card .q) (take (card .n + card .n + card .m) lent) ≡ true
 
 pub commit-taken : (card : Card) (b lent : List ℕ) (out : ℕ) → commitRefusal card b lent out ≡ 0 → CommitTaken card b lent out
-unfolding commitRefusal lentRefusal
+unfolding commitRefusal systemAgainst
 commit-taken card b lent out none =
     let vectors = card .n + card .n + card .m in
     let after-state = later-zero _ _ none in
@@ -88,7 +88,7 @@ commit-taken card b lent out none =
     }
 
 pub commit-due : (card : Card) (b lent : List ℕ) (out : ℕ) → CommitTaken card b lent out → commitRefusal card b lent out ≡ 0
-unfolding commitRefusal lentRefusal
+unfolding commitRefusal systemAgainst
 commit-due card b lent out k =
     both-zero _ _ (due-state (phaseNumber (card .phase)) 1 (k .due) (λ e. absurd (omega arith)))
     (both-zero _ _ (both-zero _ _ (k .good) (unless-holds _ 7 (k .fits)))
@@ -105,7 +105,7 @@ pub record AlphaTaken (card : Card) (b : List ℕ) (α out : ℕ) : Type 0 where
   pub element : α < card .q
 
 pub alpha-taken : (card : Card) (b : List ℕ) (α out : ℕ) → alphaRefusal card b α out ≡ 0 → AlphaTaken card b α out
-unfolding alphaRefusal lentRefusal
+unfolding alphaRefusal systemAgainst
 alpha-taken card b α out none =
     let after-state = later-zero _ _ none in
     let system = first-zero _ _ after-state in
@@ -119,7 +119,7 @@ alpha-taken card b α out none =
     }
 
 pub alpha-due : (card : Card) (b : List ℕ) (α out : ℕ) → AlphaTaken card b α out → alphaRefusal card b α out ≡ 0
-unfolding alphaRefusal lentRefusal
+unfolding alphaRefusal systemAgainst
 alpha-due card b α out k =
     both-zero _ _ (due-state (phaseNumber (card .phase)) 2 (k .due) (λ e. absurd (omega arith)))
     (both-zero _ _ (both-zero _ _ (k .good) (unless-holds _ 7 (k .fits)))

@@ -7,8 +7,8 @@ use lib.ListN.{length, take}
 use Rattle.slices.specs.Slices.{same, zeros}
 use Rattle.refusal.specs.Refusal.{unless, _orElse_}
 use Rattle.field.specs.Ops.{ops}
-use Rattle.field.specs.Vector.{held, subV, allBelow}
-use Rattle.system.specs.System.{qOf, nOf, mOf, areSizes, systemRefusal, lentRefusal, F}
+use Rattle.field.specs.Vector.{asVector, subV, allBelow}
+use Rattle.system.specs.System.{qOf, nOf, mOf, areSizes, systemRefusal, systemAgainst, F}
 use Rattle.scheme.specs.Scheme.{isScheme, isRounds, challenges, commitmentsLength, replyLength}
 use Rattle.protocol.specs.Protocols as P
 use Rattle.protocol.specs.Protocols.{t1By, e1By}
@@ -92,7 +92,7 @@ openForm b scheme rounds v s =
 
 -- "5 F(s) ≠ v when a card is opened"
 unfoldable pub openRefusal : List ℕ → ℕ → ℕ → List ℕ → List ℕ → ℕ
-openRefusal b scheme rounds v s = openForm b scheme rounds v s orElse unless (same (F b (held s)) (held v)) 5
+openRefusal b scheme rounds v s = openForm b scheme rounds v s orElse unless (same (F b (asVector s)) (asVector v)) 5
 
 -- a card in its first round, nothing lent yet
 unfoldable pub openedCard : List ℕ → ℕ → ℕ → List ℕ → Card
@@ -105,7 +105,7 @@ openedCard b scheme rounds s =
       m = mOf b;
       rounds = rounds;
       round = 0;
-      s = held s;
+      s = asVector s;
       r0 = zeros 96;
       t0 = zeros 96;
       e0 = zeros 96;
@@ -122,7 +122,7 @@ unfoldable pub commitRefusal : Card → List ℕ → List ℕ → ℕ → ℕ
 commitRefusal card b lent out =
     let vectors = card .n + card .n + card .m in
     stateRefusal (phaseNumber (card .phase)) 1 orElse
-    lentRefusal b (card .q) (card .n) (card .m) orElse
+    systemAgainst b (card .q) (card .n) (card .m) orElse
     unless (eqb (length lent) (vectors + commitmentsLength (card .scheme))) 2 orElse
     unless (eqb out (commitmentsLength (card .scheme))) 2 orElse
     unless (allBelow (card .q) (take vectors lent)) 3
@@ -143,7 +143,7 @@ sentCommitments card b lent =
 unfoldable pub alphaRefusal : Card → List ℕ → ℕ → ℕ → ℕ
 alphaRefusal card b α out =
     stateRefusal (phaseNumber (card .phase)) 2 orElse
-    lentRefusal b (card .q) (card .n) (card .m) orElse
+    systemAgainst b (card .q) (card .n) (card .m) orElse
     unless (eqb out (card .n + card .m)) 2 orElse
     unless (ltb α (card .q)) 3
 

@@ -17,7 +17,7 @@ use slices::equal;
 use slices::part;
 use system::are_sizes;
 use system::check;
-use system::lent_refusal;
+use system::check_against;
 ghost use mathlib.Core.Path.{_≡_};
 ghost use Rattle.card_state.specs.Card.{openForm, openRefusal, commitRefusal, alphaRefusal, replyRefusal};
 
@@ -55,7 +55,7 @@ pub fn commit_refusal<'a>(card: Card, system: &'a [u8], lent: &'a [u8], out_len:
     let vectors = card.n as usize + card.n as usize + card.m as usize;
     let each = commitments_length(card.scheme);
     let state = state_refusal(phase_number(phase), 1);
-    let front = lent_refusal(system, card.q, card.n, card.m);
+    let front = check_against(system, card.q, card.n, card.m);
     let lengths = first(
         unless(lent.len() == vectors + each, 2),
         unless(out_len == each, 2),
@@ -70,7 +70,7 @@ pub fn alpha_refusal(card: Card, system: &[u8], alpha: u8, out_len: usize) -> u8
 {
     let phase = card.phase;
     let state = state_refusal(phase_number(phase), 2);
-    let lent = lent_refusal(system, card.q, card.n, card.m);
+    let lent = check_against(system, card.q, card.n, card.m);
     let back = first(
         unless(out_len == card.n as usize + card.m as usize, 2),
         unless(alpha < card.q, 3),

@@ -9,7 +9,7 @@ use carrier_state::carrier_with;
 use carrier_state::challenge_refusal;
 use carrier_state::closed_carrier;
 use carrier_state::commitments_refusal;
-use carrier_state::held_middle;
+use carrier_state::held_turn;
 use carrier_state::middle_refusal;
 use carrier_state::reply_refusal;
 use exchange::judge;
@@ -47,7 +47,7 @@ pub fn set_alpha(c: Carrier, alpha: u8) -> CarrierAnswer
 {
     let refused = alpha_refusal(c, alpha);
     let sent = c.commitments;
-    let held = held_middle(alpha, &[]);
+    let held = held_turn(alpha, &[]);
     let with_alpha = carrier_with(c, CarrierPhase::TakeMiddle, c.accepted, sent, held, 0);
     answer(refused, c, with_alpha)
 }
@@ -58,7 +58,7 @@ pub fn take_middle(c: Carrier, middle: &[u8]) -> CarrierAnswer
 {
     let refused = middle_refusal(c, middle);
     let sent = c.commitments;
-    let held = held_middle(c.middle[0], middle);
+    let held = held_turn(c.middle[0], middle);
     let with_middle = carrier_with(c, CarrierPhase::SetChallenge, c.accepted, sent, held, 0);
     answer(refused, c, with_middle)
 }

@@ -6,8 +6,8 @@ use lib.Dec.{ltb, eqb}
 use lib.ListN.{length, take}
 use Rattle.slices.specs.Slices.{_!_, tabulate, zeros}
 use Rattle.refusal.specs.Refusal.{unless, _orElse_}
-use Rattle.field.specs.Vector.{held, allBelow}
-use Rattle.system.specs.System.{qOf, nOf, mOf, systemRefusal, lentRefusal}
+use Rattle.field.specs.Vector.{asVector, allBelow}
+use Rattle.system.specs.System.{qOf, nOf, mOf, systemRefusal, systemAgainst}
 use Rattle.scheme.specs.Scheme.{isScheme, isRounds, challenges, commitmentsLength, vectorsLength, replyLength}
 use Rattle.exchange.specs.Messages.{accepts}
 use Rattle.session_state.specs.declared.Verdict.{Verdict}
@@ -61,8 +61,8 @@ carrierWith c phase accepted commitments middle challenge =
     }
 
 -- α, t1 and e1 by value in 193 bytes, zero beyond their length
-unfoldable pub heldMiddle : ℕ → List ℕ → List ℕ
-heldMiddle α l = tabulate 193 (λ i. (α ∷ l) ! i)
+unfoldable pub heldTurn : ℕ → List ℕ → List ℕ
+heldTurn α l = tabulate 193 (λ i. (α ∷ l) ! i)
 
 -- ---- open(system, scheme, N, v)
 
@@ -84,7 +84,7 @@ openedCarrier b scheme rounds v =
       m = mOf b;
       rounds = rounds;
       accepted = 0;
-      v = held v;
+      v = asVector v;
       commitments = zeros 96;
       middle = zeros 193;
       challenge = 0;
@@ -98,7 +98,7 @@ commitmentsRefusal c commitments =
 
 unfoldable pub withCommitments : Carrier → List ℕ → Carrier
 withCommitments c commitments =
-    carrierWith c (cond (eqb (c .scheme) 3) SetChallenge SetAlpha) (c .accepted) (held commitments) (zeros 193) 0
+    carrierWith c (cond (eqb (c .scheme) 3) SetChallenge SetAlpha) (c .accepted) (asVector commitments) (zeros 193) 0
 
 -- ---- set α (scheme 5)
 
@@ -106,7 +106,7 @@ unfoldable pub alphaRefusal : Carrier → ℕ → ℕ
 alphaRefusal c α = stateRefusal (phaseNumber (c .phase)) 2 orElse unless (ltb α (c .q)) 3
 
 unfoldable pub withAlpha : Carrier → ℕ → Carrier
-withAlpha c α = carrierWith c TakeMiddle (c .accepted) (c .commitments) (heldMiddle α []) 0
+withAlpha c α = carrierWith c TakeMiddle (c .accepted) (c .commitments) (heldTurn α []) 0
 
 -- ---- take t1 and e1 (scheme 5), one behind the other
 
@@ -115,7 +115,7 @@ middleRefusal c middle =
     stateRefusal (phaseNumber (c .phase)) 3 orElse unless (eqb (length middle) (c .n + c .m)) 2 orElse unless (allBelow (c .q) middle) 3
 
 unfoldable pub withMiddle : Carrier → List ℕ → Carrier
-withMiddle c middle = carrierWith c SetChallenge (c .accepted) (c .commitments) (heldMiddle (c .middle ! 0) middle) 0
+withMiddle c middle = carrierWith c SetChallenge (c .accepted) (c .commitments) (heldTurn (c .middle ! 0) middle) 0
 
 -- ---- set challenge
 
@@ -130,7 +130,7 @@ withChallenge c challenge = carrierWith c TakeReply (c .accepted) (c .commitment
 unfoldable pub replyRefusal : Carrier → List ℕ → List ℕ → ℕ
 replyRefusal c b reply =
     stateRefusal (phaseNumber (c .phase)) 5 orElse
-    lentRefusal b (c .q) (c .n) (c .m) orElse
+    systemAgainst b (c .q) (c .n) (c .m) orElse
     unless (eqb (length reply) (replyLength (c .scheme) (c .n) (c .m))) 2 orElse
     unless (allBelow (c .q) (take (vectorsLength (c .scheme) (c .n) (c .m)) reply)) 3
 

@@ -15,4 +15,4 @@ pub use session::Judged;
 pub use session::answer;
 pub use session::carrier_with;
 pub use session::closed_carrier;
-pub use session::held_middle;
+pub use session::held_turn;

@@ -14,7 +14,7 @@ use session_state::state_refusal;
 use slices::byte_at;
 use slices::part;
 use system::check;
-use system::lent_refusal;
+use system::check_against;
 ghost use mathlib.Core.Path.{_≡_};
 ghost use Rattle.carrier_state.specs.Carrier.{openRefusal, commitmentsRefusal, alphaRefusal, middleRefusal, challengeRefusal, replyRefusal};
 
@@ -80,7 +80,7 @@ pub fn reply_refusal<'a>(c: Carrier, system: &'a [u8], reply: &'a [u8]) -> u8
     let phase = c.phase;
     let vectors = vectors_length(c.scheme, c.n, c.m);
     let state = state_refusal(phase_number(phase), 5);
-    let front = lent_refusal(system, c.q, c.n, c.m);
+    let front = check_against(system, c.q, c.n, c.m);
     let form = first(
         unless(reply.len() == reply_length(c.scheme, c.n, c.m), 2),
         unless(all_below(c.q, part(reply, 0, vectors)), 3),

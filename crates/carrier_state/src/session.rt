@@ -3,7 +3,7 @@ use session_state::Verdict;
 use slices::byte_at;
 ghost use mathlib.Core.Path.{_≡_};
 ghost use Rattle.refusal.specs.Refusal.{kept};
-ghost use Rattle.carrier_state.specs.Carrier.{phaseNumber, closedCarrier, carrierWith, heldMiddle};
+ghost use Rattle.carrier_state.specs.Carrier.{phaseNumber, closedCarrier, carrierWith, heldTurn};
 
 // The next call that is due.
 pub enum CarrierPhase {
@@ -122,8 +122,8 @@ pub fn carrier_with(
 }
 
 // α and what stands behind it, zero beyond their length.
-pub fn held_middle(alpha: u8, s: &[u8]) -> [u8; 193]
-    ensures { λ r. ⌜ r ≡ heldMiddle alpha (now (s .entry)) ⌝ }
+pub fn held_turn(alpha: u8, s: &[u8]) -> [u8; 193]
+    ensures { λ r. ⌜ r ≡ heldTurn alpha (now (s .entry)) ⌝ }
 {
     let mut out = [alpha; 193];
     let mut i = 1;

@@ -12,16 +12,16 @@ use Rattle.slices.proofs.Tabulate.{length-tabulate, tabulate-at, tabulate-of}
 use Rattle.commitment.specs.declared.Text.{Text}
 use Rattle.commitment.specs.Held.{held, text}
 
-pub length-held : (l : List ℕ) → length (held l) ≡ 322
+pub length-padded : (l : List ℕ) → length (held l) ≡ 322
 unfolding held
-length-held l = length-tabulate 322 _
+length-padded l = length-tabulate 322 _
 
 held-at : (l : List ℕ) (i : ℕ) → i < 322 → held l ! i ≡ l ! i
 unfolding held
 held-at l i h = tabulate-at 322 _ i h
 
 front : (l : List ℕ) → length l ≤ 322 → length (take (length l) (held l)) ≡ length l
-front l room = length-take-le (length l) (held l) (rw (length-held l) room)
+front l room = length-take-le (length l) (held l) (rw (length-padded l) room)
 
 -- ---- s put behind l: what stands before it, in it and after it
 
@@ -71,7 +71,7 @@ unfolding held
 joined l s room = tabulate-of _ 322 (λ i. (l ++ s) ! i) long (λ i h. put-at l s i room h)
   where
     long : length (take (length l) (held l) ++ (s ++ drop (length l + length s) (held l))) ≡ 322
-    long = simp (length-append, front l (omega arith), length-drop, length-held) (omega arith)
+    long = simp (length-append, front l (omega arith), length-drop, length-padded) (omega arith)
 
 -- a string grows by what is put behind it
 pub held-put : (l s bytes r : List ℕ) (at : ℕ) → bytes ≡ held l → length l ≡ at → at + length s ≤ 322 →

@@ -1,7 +1,7 @@
 // Commitments: the string that is hashed, held in 322 bytes with its length, and its digest.
 //
 // Nothing here refuses: a vector contributes as many of its 96 bytes as its length says.
-use field::held;
+use field::clamped;
 ghost use mathlib.Core.Path.{_≡_};
 ghost use Prim.Native.Nat.{_+_, _≤_};
 ghost use mathlib.Core.List.{_++_};
@@ -51,7 +51,7 @@ fn append(t: Text, v: [u8; 96], n: u8) -> Text
 {
     let bytes = t.bytes;
     let len = t.len;
-    let count = held(n as usize);
+    let count = clamped(n as usize);
     Text {
         bytes: put(bytes, len, &v[..count]),
         len: len + count,

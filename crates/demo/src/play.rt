@@ -5,7 +5,7 @@ use card_state::Card;
 use carrier_state::Carrier;
 use scheme::commitments_length;
 use scheme::exchange_length;
-use scheme::middle_length;
+use scheme::turn_length;
 use scheme::of_rounds;
 use scheme::reply_length;
 use slices::byte_at;
@@ -157,7 +157,7 @@ fn with_answer(t: Terms, ends: Ends, system: &[u8], alpha: u8, exchange: &mut [u
 fn with_reply(t: Terms, ends: Ends, system: &[u8], challenge: u8, exchange: &mut [u8]) -> Ends
     requires { ⌜ 1341 ≤ length (now exchange) ⌝ }
 {
-    let at = middle_length(t.scheme, t.n, t.m);
+    let at = turn_length(t.scheme, t.n, t.m);
     let start = at + 1;
     let end = start + reply_length(t.scheme, t.n, t.m);
     put(exchange, at, &[challenge]);

@@ -11,7 +11,7 @@ use lib.ListN.{length, take, drop, length-take, List·getD-eq-default}
 use lib.Seq.{getD-take, getD-drop}
 use Rattle.slices.proofs.Booleans.{either}
 use Rattle.slices.specs.Slices.{_!_}
-use Rattle.field.specs.Vector.{held, slotV, IsVector, allBelow}
+use Rattle.field.specs.Vector.{asVector, slotV, IsVector, allBelow}
 use Rattle.field.proofs.Modulus.{size-of}
 use Rattle.field.proofs.Fields.{ring}
 use Rattle.sha256.proofs.DigestBytes.{length-sha256}
@@ -54,7 +54,7 @@ module _ (b : List ℕ) (good : systemRefusal b ≡ 0) where
   size-is = size-of (qOf b) (accepted b good .is-field)
 
   -- a list of n elements, held as a vector
-  pub held-is : (n : ℕ) (l : List ℕ) → length l ≡ n → allBelow (qOf b) l ≡ true → IsVector (opsOf b) n (held l)
+  pub held-is : (n : ℕ) (l : List ℕ) → length l ≡ n → allBelow (qOf b) l ≡ true → IsVector (opsOf b) n (asVector l)
   held-is n l long below = rw long (is-vector (opsOf b) (ring (qOf b)) n _ (λ i h. rw size-is (all-below-at (qOf b) l below i (rw long h))))
 
   -- n places among the first k, which are elements

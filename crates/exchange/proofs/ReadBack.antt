@@ -46,18 +46,18 @@ unfolding bytesAt
 bytes-back s l place long stands = sym (tabulate-of s 32 _ long (λ i h. sym (stands i (rw long h))))
 
 -- a vector of n elements in 96 places
-abbrev pub Held : ℕ → List ℕ → Type 0
-Held n x = x ≡ vector n (λ i. x ! i)
+abbrev pub Padded : ℕ → List ℕ → Type 0
+Padded n x = x ≡ vector n (λ i. x ! i)
 
-pub length-held : (n : ℕ) (x : List ℕ) → n ≤ 96 → Held n x → length (take n x) ≡ n
-length-held n x small held =
+pub length-padded : (n : ℕ) (x : List ℕ) → n ≤ 96 → Padded n x → length (take n x) ≡ n
+length-padded n x small held =
     let long : length x ≡ 96 = ap length held ∙ length-vector n _ in
     length-take-le n x (omega arith)
 
-pub slot-back : (n : ℕ) (x l : List ℕ) (place : ℕ) → n ≤ 96 → Held n x → Stands (take n x) place l → slotV n place l ≡ x
+pub slot-back : (n : ℕ) (x l : List ℕ) (place : ℕ) → n ≤ 96 → Padded n x → Stands (take n x) place l → slotV n place l ≡ x
 unfolding slotV
 slot-back n x l place small held stands =
-    vector-cong n _ _ (λ i h k. stands i (rw (length-held n x small held) h) ∙ getD-take n x i 0 h) ∙ sym held
+    vector-cong n _ _ (λ i h k. stands i (rw (length-padded n x small held) h) ∙ getD-take n x i 0 h) ∙ sym held
 
 -- ---- what stands behind a message's end does not matter
 
@@ -173,10 +173,10 @@ module _ (o : Ops) where
 
   module _ (n m : ℕ) (r : ReplyThree) (hn : n ≤ 96) (hm : m ≤ 96) (k : IsReplyThree n m r) where
     after-y : length (take n (r .x) ++ take n (r .y)) ≡ n + n
-    after-y = simp (length-append, length-held n (r .x) hn (k .x-is .held), length-held n (r .y) hn (k .y-is .held))
+    after-y = simp (length-append, length-padded n (r .x) hn (k .x-is .padded), length-padded n (r .y) hn (k .y-is .padded))
 
     after-z : length (take n (r .x) ++ take n (r .y) ++ take m (r .z)) ≡ n + n + m
-    after-z = length-append (take n (r .x) ++ take n (r .y)) _ ∙ simp (after-y, length-held m (r .z) hm (k .z-is .held))
+    after-z = length-append (take n (r .x) ++ take n (r .y)) _ ∙ simp (after-y, length-padded m (r .z) hm (k .z-is .padded))
 
     after-first : length (take n (r .x) ++ take n (r .y) ++ take m (r .z) ++ r .first) ≡ n + n + m + 32
     after-first = length-append (take n (r .x) ++ take n (r .y) ++ take m (r .z)) _ ∙ simp (after-z, k .first-long)
@@ -193,9 +193,9 @@ module _ (o : Ops) where
         let z = take m (r .z) in
         let f = r .first in
         let s = r .second in
-        let x-long : length x ≡ n = length-held n (r .x) hn (k .x-is .held) in
-        let y-long : length y ≡ n = length-held n (r .y) hn (k .y-is .held) in
-        let z-long : length z ≡ m = length-held m (r .z) hm (k .z-is .held) in
+        let x-long : length x ≡ n = length-padded n (r .x) hn (k .x-is .padded) in
+        let y-long : length y ≡ n = length-padded n (r .y) hn (k .y-is .padded) in
+        let z-long : length z ≡ m = length-padded m (r .z) hm (k .z-is .padded) in
         let two = after-y in
         let three = after-z in
         let four = after-first in
@@ -206,9 +206,9 @@ module _ (o : Ops) where
         λ t place room st. in-four t place (omega arith) (stands-before (x ++ y ++ z) f t place (omega arith) st) in
         let in-two : (t : List ℕ) (place : ℕ) → place + length t ≤ n + n → Stands t place (x ++ y) → Stands t place l =
         λ t place room st. in-three t place (omega arith) (stands-before (x ++ y) z t place (omega arith) st) in
-        let bx = slot-back n (r .x) l 0 hn (k .x-is .held) (in-two x 0 (omega arith) (stands-before x y x 0 (omega arith) (stands-last [] x 0 refl))) in
-        let by = slot-back n (r .y) l n hn (k .y-is .held) (in-two y n (omega arith) (stands-last x y n x-long)) in
-        let bz = slot-back m (r .z) l (n + n) hm (k .z-is .held) (in-three z (n + n) (omega arith) (stands-last (x ++ y) z (n + n) two)) in
+        let bx = slot-back n (r .x) l 0 hn (k .x-is .padded) (in-two x 0 (omega arith) (stands-before x y x 0 (omega arith) (stands-last [] x 0 refl))) in
+        let by = slot-back n (r .y) l n hn (k .y-is .padded) (in-two y n (omega arith) (stands-last x y n x-long)) in
+        let bz = slot-back m (r .z) l (n + n) hm (k .z-is .padded) (in-three z (n + n) (omega arith) (stands-last (x ++ y) z (n + n) two)) in
         let bf = bytes-back f l (n + n + m) (k .first-long) (in-four f (n + n + m) (omega (arith, k .first-long)) (stands-last (x ++ y ++ z) f (n + n + m) three)) in
         let bs = bytes-back s l (n + n + m + 32) (k .second-long) (stands-last (x ++ y ++ z ++ f) s (n + n + m + 32) four) in
         λ i. record { x = bx i; y = by i; z = bz i; first = bf i; second = bs i }
@@ -230,21 +230,21 @@ module _ (o : Ops) where
 
   pub reply-five-length : (n : ℕ) (r : ReplyFive) → n ≤ 96 → IsReplyFive n r → length (replyFiveBytes n r) ≡ n + 32
   unfolding replyFiveBytes
-  reply-five-length n r hn k = let x-long = length-held n (r .x) hn (k .x-is .held) in simp length-append (omega (arith, k .rho-long))
+  reply-five-length n r hn k = let x-long = length-padded n (r .x) hn (k .x-is .padded) in simp length-append (omega (arith, k .rho-long))
 
   pub reply-five-back : (n : ℕ) (r : ReplyFive) → n ≤ 96 → IsReplyFive n r → replyFiveIn n (replyFiveBytes n r) ≡ r
   unfolding replyFiveIn replyFiveBytes
   reply-five-back n r hn k =
       let x = take n (r .x) in
-      let x-long : length x ≡ n = length-held n (r .x) hn (k .x-is .held) in
+      let x-long : length x ≡ n = length-padded n (r .x) hn (k .x-is .padded) in
       let l = x ++ r .rho in
-      let bx = slot-back n (r .x) l 0 hn (k .x-is .held) (stands-before x (r .rho) x 0 (omega arith) (stands-last [] x 0 refl)) in
+      let bx = slot-back n (r .x) l 0 hn (k .x-is .padded) (stands-before x (r .rho) x 0 (omega arith) (stands-last [] x 0 refl)) in
       let br = bytes-back (r .rho) l n (k .rho-long) (stands-last x (r .rho) n x-long) in
       λ i. record { x = bx i; rho = br i }
 
   pub reply-five-below : (n : ℕ) (r : ReplyFive) → n ≤ 96 → IsReplyFive n r → allBelow (o .size) (take n (replyFiveBytes n r)) ≡ true
   unfolding replyFiveBytes
-  reply-five-below n r hn k = rw (take-at (take n (r .x)) (r .rho) n (length-held n (r .x) hn (k .x-is .held))) (below-vector n (r .x) (k .x-is))
+  reply-five-below n r hn k = rw (take-at (take n (r .x)) (r .rho) n (length-padded n (r .x) hn (k .x-is .padded))) (below-vector n (r .x) (k .x-is))
 
   -- ---- t1 and e1
 
@@ -255,8 +255,8 @@ module _ (o : Ops) where
   pub middle-length : (n m : ℕ) (sent : Middle) → n ≤ 96 → m ≤ 96 → IsMiddle n m sent → length (middleBytes n m sent) ≡ n + m
   unfolding middleBytes
   middle-length n m sent hn hm k =
-      let t-long = length-held n (sent .t1) hn (k .t1-is .held) in
-      let e-long = length-held m (sent .e1) hm (k .e1-is .held) in
+      let t-long = length-padded n (sent .t1) hn (k .t1-is .padded) in
+      let e-long = length-padded m (sent .e1) hm (k .e1-is .padded) in
       simp length-append (omega arith)
 
   -- behind α, whatever that is
@@ -265,11 +265,11 @@ module _ (o : Ops) where
   middle-back n m α sent hn hm k =
       let t = take n (sent .t1) in
       let e = take m (sent .e1) in
-      let t-long : length t ≡ n = length-held n (sent .t1) hn (k .t1-is .held) in
+      let t-long : length t ≡ n = length-padded n (sent .t1) hn (k .t1-is .padded) in
       let p = α ∷ t in
       let both : length p ≡ 1 + n = omega arith in
-      let bt = slot-back n (sent .t1) (p ++ e) 1 hn (k .t1-is .held) (stands-before p e t 1 (omega arith) (stands-last (α ∷ []) t 1 refl)) in
-      let be = slot-back m (sent .e1) (p ++ e) (1 + n) hm (k .e1-is .held) (stands-last p e (1 + n) both) in
+      let bt = slot-back n (sent .t1) (p ++ e) 1 hn (k .t1-is .padded) (stands-before p e t 1 (omega arith) (stands-last (α ∷ []) t 1 refl)) in
+      let be = slot-back m (sent .e1) (p ++ e) (1 + n) hm (k .e1-is .padded) (stands-last p e (1 + n) both) in
       λ i. record { t1 = bt i; e1 = be i }
 
   pub middle-below : (n m : ℕ) (sent : Middle) → IsMiddle n m sent → allBelow (o .size) (middleBytes n m sent) ≡ true

@@ -13,8 +13,8 @@ unfoldable pub vector : ℕ → (ℕ → ℕ) → List ℕ
 vector n f = tabulate 96 (λ i. cond (ltb i n) (f i) 0)
 
 -- a list as a vector
-abbrev pub held : List ℕ → List ℕ
-held l = vector (length l) (λ i. l ! i)
+abbrev pub asVector : List ℕ → List ℕ
+asVector l = vector (length l) (λ i. l ! i)
 
 -- the vector of n elements that stands in a list from a place on
 unfoldable pub slotV : ℕ → ℕ → List ℕ → List ℕ
@@ -26,7 +26,7 @@ Elements q l = (i : ℕ) → i < length l → l ! i < q
 
 -- x is a vector of n elements
 pub record IsVector (o : Ops) (n : ℕ) (x : List ℕ) : Type 0 where
-  pub held : x ≡ vector n (λ i. x ! i)
+  pub padded : x ≡ vector n (λ i. x ! i)
   pub elements : (i : ℕ) → x ! i < o .size
 
 -- sum, difference and multiple of vectors of n elements

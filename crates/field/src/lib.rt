@@ -15,7 +15,7 @@ pub use scalar::reduce_total;
 pub use scalar::sub;
 pub use vector::add_vectors;
 pub use vector::from_slice;
-pub use vector::held;
+pub use vector::clamped;
 pub use vector::mul_vector;
 pub use vector::slot;
 pub use vector::sub_vectors;

@@ -19,18 +19,18 @@ pub enum Operation {
 }
 
 // How many of n elements 96 bytes hold.
-pub fn held(n: usize) -> usize
+pub fn clamped(n: usize) -> usize
     ensures { λ r. ⌜ r ≡ min n 96 ⌝ }
 {
     if n < 96 { n } else { 96 }
 }
 
-// The vector of the bytes of s, of which 96 at most are held.
+// The vector of the bytes of s, of which 96 at most are taken.
 pub fn from_slice(s: &[u8]) -> [u8; 96]
     ensures { λ r. ⌜ r ≡ vector (length (now (s .entry))) (λ i. now (s .entry) ! i) ⌝ }
 {
     let mut z = [0; 96];
-    let end = held(s.len());
+    let end = clamped(s.len());
     let mut i = 0;
     while i < end {
         z[i] = s[i];
@@ -44,7 +44,7 @@ pub fn slot(s: &[u8], at: usize, n: u8) -> [u8; 96]
     ensures { λ r. ⌜ r ≡ slotV n «at» (now (s .entry)) ⌝ }
 {
     let mut z = [0; 96];
-    let end = held(n as usize);
+    let end = clamped(n as usize);
     let mut i = 0;
     while i < end {
         z[i] = byte_from(s, at, i);
@@ -67,7 +67,7 @@ fn each(o: Operation, q: u8, n: u8, x: [u8; 96], y: [u8; 96]) -> [u8; 96]
     ensures { λ r. ⌜ r ≡ vector n (λ i. operation o (ops q) (x ! i) (y ! i)) ⌝ }
 {
     let mut z = [0; 96];
-    let end = held(n as usize);
+    let end = clamped(n as usize);
     let mut i = 0;
     while i < end {
         z[i] = apply(o, q, x[i], y[i]);

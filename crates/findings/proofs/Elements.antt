@@ -17,12 +17,12 @@ use Rattle.system.specs.System.{qOf, nOf, mOf, opsOf, systemRefusal}
 use Rattle.system.proofs.SystemLayout.{accepted}
 use Rattle.protocol.specs.Rounds.{IsX, IsY, IsScalar}
 use Rattle.protocol.proofs.SystemMap.{is-vector}
-use Rattle.scheme.specs.Scheme.{middleLength, vectorsLength, rhosLength, replyLength}
+use Rattle.scheme.specs.Scheme.{turnLength, vectorsLength, rhosLength, replyLength}
 use Rattle.record_form.specs.declared.layout.Header.{Header}
 use Rattle.record_form.specs.Record.{Elements, ValidExchange, layoutOf, replyOf, vectorsOf, headerIn, fieldsIn}
 use Rattle.record.specs.Reader.{recordRefusal}
 use Rattle.record.proofs.RecordLayout.{not-refused, valid-fields}
-use Rattle.transcript.specs.Transcript.{keyVector, roundExchange, roundMiddle, roundReply}
+use Rattle.transcript.specs.Transcript.{keyVector, roundExchange, roundTurn, roundReply}
 use Rattle.openings.specs.Openings.{replyVector}
 use Rattle.findings.specs.Findings.{Auditable}
 
@@ -49,7 +49,7 @@ reply-at : (h : Header) (exchange : List ℕ) (i : ℕ) → i < h .n → replyOf
 unfolding replyOf vectorsOf replyLength
 reply-at h exchange i below =
     let room = vectors-room (h .scheme) (h .n) (h .m) in
-    let behind = drop (middleLength (h .scheme) (h .n) (h .m) + 1) exchange in
+    let behind = drop (turnLength (h .scheme) (h .n) (h .m) + 1) exchange in
     getD-take (vectorsLength (h .scheme) (h .n) (h .m) + rhosLength (h .scheme)) behind i 0 (omega (arith, room, below)) ∙
     sym (getD-take (vectorsLength (h .scheme) (h .n) (h .m)) behind i 0 (omega (arith, room, below)))
 
@@ -89,7 +89,7 @@ module _ (scheme : ℕ) (system a b : List ℕ) where
         is-vector (opsOf system) (ring (qOf system)) (nOf system) _ (λ i below.
         subst (λ (x : ℕ). x < opsOf system .size) (sym (read i below)) (rw size-is (everywhere (headerIn b .q) vectors positive (valid .reply-elements) i)))
 
-    pub alpha-is : (r : ℕ) → r < headerIn b .rounds → IsScalar system (roundMiddle b r ! 0)
+    pub alpha-is : (r : ℕ) → r < headerIn b .rounds → IsScalar system (roundTurn b r ! 0)
     alpha-is r h =
         let valid = valid-exchange b (not-refused b (k .well-formed)) r h in
-        rw size-is (everywhere (headerIn b .q) (roundMiddle b r) positive (valid .middle-elements) 0)
+        rw size-is (everywhere (headerIn b .q) (roundTurn b r) positive (valid .middle-elements) 0)

@@ -11,7 +11,7 @@ use lib.Dec.{eqb}
 use Rattle.slices.specs.Slices.{_!_, same}
 use Rattle.slices.proofs.Booleans.{and-left, and-right, and-both}
 use Rattle.slices.proofs.Sameness.{same-true, same-by}
-use Rattle.transcript.specs.Transcript.{roundMiddle, roundChallenge}
+use Rattle.transcript.specs.Transcript.{roundTurn, roundChallenge}
 use Rattle.full_set.specs.FullSet.{answering, answered, fullThree, askedBoth, fullFive, fullSet}
 use Rattle.findings.specs.Findings.{FullThree, FullFive, Among}
 
@@ -164,14 +164,14 @@ module _ (a b c : List ℕ) (r : ℕ) (full : FullThree a b c r) where
 record Both (x y : List ℕ) (r : ℕ) : Type 0 where
   zero-asked : roundChallenge x r ≡ 0
   one-asked : roundChallenge y r ≡ 1
-  same-middle : roundMiddle x r ≡ roundMiddle y r
+  same-middle : roundTurn x r ≡ roundTurn y r
 
 asked-both : (x y : List ℕ) (r : ℕ) → askedBoth x y r ≡ true → Both x y r
 unfolding askedBoth
 asked-both x y r e =
     let zero-test = eqb (roundChallenge x r) 0 in
     let one-test = eqb (roundChallenge y r) 1 in
-    let middle-test = same (roundMiddle x r) (roundMiddle y r) in
+    let middle-test = same (roundTurn x r) (roundTurn y r) in
     let rest = and-right zero-test (one-test && middle-test) e in
     record {
       zero-asked = eqb-true _ _ (and-left zero-test (one-test && middle-test) e);
@@ -182,7 +182,7 @@ asked-both x y r e =
 pub five-full : (a b c d : List ℕ) (r : ℕ) → fullFive a b c d r ≡ true → FullFive a b c d r
 unfolding fullFive
 five-full a b c d r e =
-    let alpha-test = not (eqb (roundMiddle a r ! 0) (roundMiddle c r ! 0)) in
+    let alpha-test = not (eqb (roundTurn a r ! 0) (roundTurn c r ! 0)) in
     let rest = and-right (askedBoth a b r) (askedBoth c d r && alpha-test) e in
     let ab = asked-both a b r (and-left (askedBoth a b r) (askedBoth c d r && alpha-test) e) in
     let cd = asked-both c d r (and-left (askedBoth c d r) alpha-test rest) in

@@ -16,9 +16,9 @@ use Rattle.protocol.specs.Rounds.{mapOf, IsX}
 use Rattle.protocol.proofs.Rounds.{quadratic-map, soundness-three, soundness-five}
 use Rattle.round.specs.ThreePass.{openedFirst, openedSecond, firstNumber}
 use Rattle.exchange.specs.Messages.{middleIn, replyThreeIn, replyFiveIn}
-use Rattle.exchange.proofs.ReadBack.{Held, length-held}
+use Rattle.exchange.proofs.ReadBack.{Padded, length-padded}
 use Rattle.record_form.specs.Record.{headerIn}
-use Rattle.transcript.specs.Transcript.{keyVector, roundMiddle, roundChallenge}
+use Rattle.transcript.specs.Transcript.{keyVector, roundTurn, roundChallenge}
 use Rattle.openings.specs.Openings.{openingIn, compared, replyVector, secretOf}
 use Rattle.findings.specs.Findings.{Auditable, FullFive}
 use Rattle.findings.proofs.Strings.{replyIn, replyInFive, sentIn, first-vectors, second-vectors, zero-vectors, one-vectors}
@@ -26,20 +26,20 @@ use Rattle.findings.proofs.Elements.{same-v, v-is, x-is, alpha-is}
 
 -- ---- vectors in a row
 
-held-vector : (n : ℕ) (f : ℕ → ℕ) → Held n (vector n f)
+held-vector : (n : ℕ) (f : ℕ → ℕ) → Padded n (vector n f)
 held-vector n f = vector-cong n f _ (λ i h l. sym (vector-at n f i h l))
 
-same-held : (n : ℕ) (x y : List ℕ) → Held n x → Held n y → take n x ≡ take n y → x ≡ y
+same-held : (n : ℕ) (x y : List ℕ) → Padded n x → Padded n y → take n x ≡ take n y → x ≡ y
 same-held n x y hx hy e =
     hx ∙ vector-cong n _ _ (λ i h l. sym (getD-take n x i 0 h) ∙ ap (λ (k : List ℕ). k ! i) e ∙ getD-take n y i 0 h) ∙ sym hy
 
 -- the first vector, and what stands behind it
-split-vector : (n : ℕ) (x y s t : List ℕ) → n ≤ 96 → Held n x → Held n y → take n x ++ s ≡ take n y ++ t → (x ≡ y) × (s ≡ t)
+split-vector : (n : ℕ) (x y s t : List ℕ) → n ≤ 96 → Padded n x → Padded n y → take n x ++ s ≡ take n y ++ t → (x ≡ y) × (s ≡ t)
 split-vector n x y s t small hx hy e =
-    let parts = append-split (take n x) (take n y) s t (length-held n x small hx ∙ sym (length-held n y small hy)) e in
+    let parts = append-split (take n x) (take n y) s t (length-padded n x small hx ∙ sym (length-padded n y small hy)) e in
     (same-held n x y hx hy (parts .0), parts .1)
 
-split-two : (n m : ℕ) (x y u w : List ℕ) → n ≤ 96 → Held n x → Held n y → Held m u → Held m w → take n x ++ take m u ≡ take n y ++ take m w → (x ≡ y) × (u ≡ w)
+split-two : (n m : ℕ) (x y u w : List ℕ) → n ≤ 96 → Padded n x → Padded n y → Padded m u → Padded m w → take n x ++ take m u ≡ take n y ++ take m w → (x ≡ y) × (u ≡ w)
 split-two n m x y u w small hx hy hu hw e =
     let parts = split-vector n x y _ _ small hx hy e in
     (parts .0, same-held m u w hu hw (parts .1))
@@ -48,9 +48,9 @@ split-two n m x y u w small hx hy hu hw e =
 
 -- the vectors of a reply are held in their lengths
 record HeldThree (system b : List ℕ) (r : ℕ) : Type 0 where
-  x-held : Held (nOf system) (replyIn system b r .x)
-  y-held : Held (nOf system) (replyIn system b r .y)
-  z-held : Held (mOf system) (replyIn system b r .z)
+  x-held : Padded (nOf system) (replyIn system b r .x)
+  y-held : Padded (nOf system) (replyIn system b r .y)
+  z-held : Padded (mOf system) (replyIn system b r .z)
 
 held-three : (system b : List ℕ) (r : ℕ) → HeldThree system b r
 unfolding replyThreeIn slotV
@@ -139,10 +139,10 @@ module _ (system a z o t : List ℕ) (r : ℕ) (good : systemRefusal system ≡ 
       let zero-is = kz .for-scheme in
       let one-is = ko .for-scheme in
       let two-is = kt .for-scheme in
-      let p0 = split-two n m _ _ _ _ hn (ho .x-held) (ht .x-held) (map .groupY .sub-is _ _ .held) (map .groupY .add-is _ _ .held)
+      let p0 = split-two n m _ _ _ _ hn (ho .x-held) (ht .x-held) (map .groupY .sub-is _ _ .padded) (map .groupY .add-is _ _ .padded)
       (sym (one-first system o r hn hm one-is asked-o) ∙ c0 ∙ two-first system t r hn hm two-is asked-t)
       in
-      let p1 = split-two n m _ _ _ _ hn (map .groupX .sub-is _ _ .held) (ht .y-held) (map .groupY .sub-is _ _ .held) (ht .z-held)
+      let p1 = split-two n m _ _ _ _ hn (map .groupX .sub-is _ _ .padded) (ht .y-held) (map .groupY .sub-is _ _ .padded) (ht .z-held)
       (sym (zero-first system z r hn hm zero-is asked-z) ∙ c1 ∙ two-second system t r hn hm two-is asked-t)
       in
       let p2 = split-two n m _ _ _ _ hn (hz .y-held) (ho .y-held) (hz .z-held) (ho .z-held)
@@ -158,7 +158,7 @@ module _ (system a z o t : List ℕ) (r : ℕ) (good : systemRefusal system ≡ 
 
 -- ---- five passes
 
-x-held-five : (system b : List ℕ) (r : ℕ) → Held (nOf system) (replyInFive system b r .x)
+x-held-five : (system b : List ℕ) (r : ℕ) → Padded (nOf system) (replyInFive system b r .x)
 unfolding replyFiveIn slotV
 x-held-five system b r = held-vector (nOf system) _
 
@@ -172,7 +172,7 @@ unmaskedWith system v middle x =
     unmaskedBy (mapOf system) (middle ! 0) v x (middleIn (nOf system) (mOf system) middle .t1) (middleIn (nOf system) (mOf system) middle .e1)
 
 one-with : (system b v middle : List ℕ) (r : ℕ) → nOf system ≤ 96 → mOf system ≤ 96 → headerIn b .scheme ≡ 5 → roundChallenge b r ≡ 1 → keyVector b ≡ v →
-    middle ≡ roundMiddle b r →
+    middle ≡ roundTurn b r →
     compared (openingIn system b r 1) ≡ take (nOf system) (replyInFive system b r .x) ++ take (mOf system) (unmaskedWith system v middle (replyInFive system b r .x))
 one-with system b v middle r hn hm is asked key same =
     one-vectors system b r hn hm is asked ∙
@@ -195,13 +195,13 @@ module _ (system a b c d : List ℕ) (r : ℕ) (good : systemRefusal system ≡ 
       let p0 = split-vector n _ _ _ _ hn (x-held-five system a r) (x-held-five system c r)
       (sym (zero-vectors system a r hn hm (ka .for-scheme) (full .a-challenge)) ∙ c0 ∙ zero-vectors system c r hn hm (kc .for-scheme) (full .c-challenge))
       in
-      let q0 = split-two n m _ _ _ _ hn (map .groupX .sub-is _ _ .held) (map .groupX .sub-is _ _ .held) (map .groupY .sub-is _ _ .held) (map .groupY .sub-is _ _ .held) (p0 .1) in
-      let p1 = split-two n m _ _ _ _ hn (x-held-five system b r) (x-held-five system d r) (map .groupY .sub-is _ _ .held) (map .groupY .sub-is _ _ .held)
-      (sym (one-with system b v (roundMiddle a r) r hn hm (kb .for-scheme) (full .b-challenge) (same-v 5 system a b kb) (full .ab-middle)) ∙ c1 ∙
-      one-with system d v (roundMiddle c r) r hn hm (kd .for-scheme) (full .d-challenge) (same-v 5 system a d kd) (full .cd-middle))
+      let q0 = split-two n m _ _ _ _ hn (map .groupX .sub-is _ _ .padded) (map .groupX .sub-is _ _ .padded) (map .groupY .sub-is _ _ .padded) (map .groupY .sub-is _ _ .padded) (p0 .1) in
+      let p1 = split-two n m _ _ _ _ hn (x-held-five system b r) (x-held-five system d r) (map .groupY .sub-is _ _ .padded) (map .groupY .sub-is _ _ .padded)
+      (sym (one-with system b v (roundTurn a r) r hn hm (kb .for-scheme) (full .b-challenge) (same-v 5 system a b kb) (full .ab-middle)) ∙ c1 ∙
+      one-with system d v (roundTurn c r) r hn hm (kd .for-scheme) (full .d-challenge) (same-v 5 system a d kd) (full .cd-middle))
       in
-      let agree : AgreeFive (mapOf system) v (roundMiddle a r ! 0) (sentIn system a r .t1) (sentIn system a r .e1) (replyInFive system a r .x) (replyInFive system b r .x)
-      (roundMiddle c r ! 0) (sentIn system c r .t1) (sentIn system c r .e1) (replyInFive system c r .x) (replyInFive system d r .x) =
+      let agree : AgreeFive (mapOf system) v (roundTurn a r ! 0) (sentIn system a r .t1) (sentIn system a r .e1) (replyInFive system a r .x) (replyInFive system b r .x)
+      (roundTurn c r ! 0) (sentIn system c r .t1) (sentIn system c r .e1) (replyInFive system c r .x) (replyInFive system d r .x) =
       record { c0-r = p0 .0; c0-t = q0 .0; c0-e = q0 .1; c1-r = p1 .0; c1-mask = p1 .1 }
       in
       ap₂ (λ (p q : List ℕ). F system (addV (opsOf system) n p q)) (first-x-five system a r) (first-x-five system b r) ∙

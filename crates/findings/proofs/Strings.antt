@@ -28,7 +28,7 @@ use Rattle.round.specs.FivePass.{five, openingFive, acceptsFive}
 use Rattle.exchange.specs.Messages.{commitmentsIn, middleIn, replyThreeIn, replyFiveIn, accepts}
 use Rattle.exchange.proofs.ReadBack.{length-bytes}
 use Rattle.record_form.specs.Record.{headerIn}
-use Rattle.transcript.specs.Transcript.{keyVector, roundCommitments, roundMiddle, roundChallenge, roundReply, acceptedRound}
+use Rattle.transcript.specs.Transcript.{keyVector, roundCommitments, roundTurn, roundChallenge, roundReply, acceptedRound}
 use Rattle.openings.specs.Openings.{openingThree, openingFiveIn, openingIn, compared}
 use Rattle.findings.specs.Findings.{Opens, first-of-three, second-of-three, of-five, HasVectors}
 
@@ -182,11 +182,11 @@ abbrev pub replyInFive : List ℕ → List ℕ → ℕ → ReplyFive
 replyInFive system b r = replyFiveIn (nOf system) (roundReply b r)
 
 abbrev pub sentIn : List ℕ → List ℕ → ℕ → Middle
-sentIn system b r = middleIn (nOf system) (mOf system) (roundMiddle b r)
+sentIn system b r = middleIn (nOf system) (mOf system) (roundTurn b r)
 
 -- the string for a challenge
 abbrev fiveBy : List ℕ → List ℕ → ℕ → ℕ → List ℕ
-fiveBy system b r challenge = openingFive system (roundMiddle b r ! 0) (keyVector b) (sentIn system b r) challenge (replyInFive system b r)
+fiveBy system b r challenge = openingFive system (roundTurn b r ! 0) (keyVector b) (sentIn system b r) challenge (replyInFive system b r)
 
 rho-long : (system b : List ℕ) (r : ℕ) → length (replyInFive system b r .rho) ≡ 32
 unfolding replyFiveIn
@@ -264,8 +264,8 @@ second-vectors system b r k hn hm is e =
 pub zero-vectors : (system b : List ℕ) (r : ℕ) → nOf system ≤ 96 → mOf system ≤ 96 → headerIn b .scheme ≡ 5 → roundChallenge b r ≡ 0 →
     compared (openingIn system b r 0) ≡
     take (nOf system) (replyInFive system b r .x) ++
-    (take (nOf system) (t0By (mapOf system) (roundMiddle b r ! 0) (replyInFive system b r .x) (sentIn system b r .t1)) ++
-    take (mOf system) (e0By (mapOf system) (roundMiddle b r ! 0) (replyInFive system b r .x) (sentIn system b r .e1)))
+    (take (nOf system) (t0By (mapOf system) (roundTurn b r ! 0) (replyInFive system b r .x) (sentIn system b r .t1)) ++
+    take (mOf system) (e0By (mapOf system) (roundTurn b r ! 0) (replyInFive system b r .x) (sentIn system b r .e1)))
 unfolding openingFive
 zero-vectors system b r hn hm is asked =
     ap compared (five-is system b r 0 is asked) ∙ compared-vectors five _ _ _ (rho-long system b r) (three-short (nOf system) (mOf system) _ _ _ hn hm)
@@ -273,7 +273,7 @@ zero-vectors system b r hn hm is asked =
 pub one-vectors : (system b : List ℕ) (r : ℕ) → nOf system ≤ 96 → mOf system ≤ 96 → headerIn b .scheme ≡ 5 → roundChallenge b r ≡ 1 →
     compared (openingIn system b r 1) ≡
     take (nOf system) (replyInFive system b r .x) ++
-    take (mOf system) (unmaskedBy (mapOf system) (roundMiddle b r ! 0) (keyVector b) (replyInFive system b r .x) (sentIn system b r .t1) (sentIn system b r .e1))
+    take (mOf system) (unmaskedBy (mapOf system) (roundTurn b r ! 0) (keyVector b) (replyInFive system b r .x) (sentIn system b r .t1) (sentIn system b r .e1))
 unfolding openingFive
 one-vectors system b r hn hm is asked =
     ap compared (five-is system b r 1 is asked) ∙ compared-vectors five _ _ _ (rho-long system b r) (two-short (nOf system) (mOf system) _ _ hn hm)

@@ -18,7 +18,7 @@ use Rattle.round.specs.ThreePass.{firstNumber, secondNumber, firstString, secon
 use Rattle.round.specs.FivePass.{openingFive}
 use Rattle.exchange.specs.Messages.{commitmentsIn, middleIn, replyThreeIn, replyFiveIn}
 use Rattle.record_form.specs.Record.{WellFormedRecord, headerIn, fieldsIn}
-use Rattle.transcript.specs.Transcript.{keyVector, roundCommitments, roundMiddle, roundChallenge, roundReply, acceptedRound}
+use Rattle.transcript.specs.Transcript.{keyVector, roundCommitments, roundTurn, roundChallenge, roundReply, acceptedRound}
 use Rattle.auditing.specs.Outcome.{Outcome, secret, clash, refused}
 
 -- ---- when
@@ -49,9 +49,9 @@ pub record FullFive (a b c d : List ℕ) (r : ℕ) : Type 0 where
   pub b-challenge : roundChallenge b r ≡ 1
   pub c-challenge : roundChallenge c r ≡ 0
   pub d-challenge : roundChallenge d r ≡ 1
-  pub ab-middle : roundMiddle a r ≡ roundMiddle b r
-  pub cd-middle : roundMiddle c r ≡ roundMiddle d r
-  pub other-alpha : roundMiddle a r ! 0 ≡ roundMiddle c r ! 0 → ⊥
+  pub ab-middle : roundTurn a r ≡ roundTurn b r
+  pub cd-middle : roundTurn c r ≡ roundTurn d r
+  pub other-alpha : roundTurn a r ! 0 ≡ roundTurn c r ! 0 → ⊥
 
 -- ---- in which order
 
@@ -122,7 +122,7 @@ pub data Opens (system b : List ℕ) (r k : ℕ) : List ℕ → Type 0 where
   second-of-three : headerIn b .scheme ≡ 3 → k ≡ secondNumber (roundChallenge b r) →
       Opens system b r k (secondString (nOf system) (mOf system) (roundChallenge b r) (replyThreeIn (nOf system) (mOf system) (roundReply b r)))
   of-five : headerIn b .scheme ≡ 5 → k ≡ roundChallenge b r →
-      Opens system b r k (openingFive system (roundMiddle b r ! 0) (keyVector b) (middleIn (nOf system) (mOf system) (roundMiddle b r)) (roundChallenge b r)
+      Opens system b r k (openingFive system (roundTurn b r ! 0) (keyVector b) (middleIn (nOf system) (mOf system) (roundTurn b r)) (roundChallenge b r)
       (replyFiveIn (nOf system) (roundReply b r)))
 
 -- x is "scheme byte .. the byte k .., 32 bytes ρ, then the vectors"

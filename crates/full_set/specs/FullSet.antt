@@ -5,7 +5,7 @@ use mathlib.Core.List.{List}
 use lib.Dec.{eqb}
 use Rattle.slices.specs.Slices.{_!_, same}
 use Rattle.record_form.specs.Record.{headerIn}
-use Rattle.transcript.specs.Transcript.{roundMiddle, roundChallenge, firstWhere}
+use Rattle.transcript.specs.Transcript.{roundTurn, roundChallenge, firstWhere}
 
 -- the first of three records whose challenge in round r is k, the last where it is no other's
 unfoldable pub answering : List ℕ → List ℕ → List ℕ → ℕ → ℕ → List ℕ
@@ -20,11 +20,11 @@ fullThree a b c r = answered a b c r 0 && (answered a b c r 1 && answered a b c 
 
 -- challenges 0, 1 after equal α, t1, e1
 unfoldable pub askedBoth : List ℕ → List ℕ → ℕ → Bool
-askedBoth x y r = eqb (roundChallenge x r) 0 && (eqb (roundChallenge y r) 1 && same (roundMiddle x r) (roundMiddle y r))
+askedBoth x y r = eqb (roundChallenge x r) 0 && (eqb (roundChallenge y r) 1 && same (roundTurn x r) (roundTurn y r))
 
 -- "scheme 5, records A, B, C, D have challenges 0, 1, 0, 1, A and B have equal α, t1, e1, so have C and D, and the α of A and of C differ"
 unfoldable pub fullFive : List ℕ → List ℕ → List ℕ → List ℕ → ℕ → Bool
-fullFive a b c d r = askedBoth a b r && (askedBoth c d r && not (eqb (roundMiddle a r ! 0) (roundMiddle c r ! 0)))
+fullFive a b c d r = askedBoth a b r && (askedBoth c d r && not (eqb (roundTurn a r ! 0) (roundTurn c r ! 0)))
 
 -- "Full set in a round"; scheme 3 has no fourth record
 unfoldable pub fullSet : ℕ → List ℕ → List ℕ → List ℕ → List ℕ → ℕ → Bool

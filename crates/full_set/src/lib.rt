@@ -5,7 +5,7 @@ use record::header_of;
 use slices::byte_at;
 use slices::equal;
 use transcript::round_challenge;
-use transcript::round_middle;
+use transcript::round_turn;
 ghost use mathlib.Core.Path.{_≡_};
 ghost use Rattle.full_set.specs.FullSet.{answering as answeringOf, answered as answeredOf, fullThree, askedBoth, fullFive, fullSet, firstFull};
 
@@ -50,7 +50,7 @@ fn asked_both<'a>(x: &'a [u8], y: &'a [u8], r: u8) -> bool
 {
     if round_challenge(x, r) == 0 {
         if round_challenge(y, r) == 1 {
-            equal(round_middle(x, r), round_middle(y, r))
+            equal(round_turn(x, r), round_turn(y, r))
         } else {
             false
         }
@@ -65,7 +65,7 @@ fn full_five<'a>(a: &'a [u8], b: &'a [u8], c: &'a [u8], d: &'a [u8], r: u8) -> b
 {
     if asked_both(a, b, r) {
         if asked_both(c, d, r) {
-            byte_at(round_middle(a, r), 0) != byte_at(round_middle(c, r), 0)
+            byte_at(round_turn(a, r), 0) != byte_at(round_turn(c, r), 0)
         } else {
             false
         }

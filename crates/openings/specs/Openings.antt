@@ -12,7 +12,7 @@ use Rattle.round.specs.ThreePass.{firstNumber, firstString, secondString}
 use Rattle.round.specs.FivePass.{openingFive}
 use Rattle.exchange.specs.Messages.{middleIn, replyThreeIn, replyFiveIn}
 use Rattle.record_form.specs.Record.{headerIn}
-use Rattle.transcript.specs.Transcript.{keyVector, roundMiddle, roundChallenge, roundReply}
+use Rattle.transcript.specs.Transcript.{keyVector, roundTurn, roundChallenge, roundReply}
 
 -- three passes: which of a reply's two openings is that of commitment k
 unfoldable pub openingThree : List ℕ → List ℕ → ℕ → ReplyThree → ℕ → List ℕ
@@ -22,7 +22,7 @@ openingThree system v challenge reply k =
 -- five passes: the string of the one opening of round r of a record
 unfoldable pub openingFiveIn : List ℕ → List ℕ → ℕ → List ℕ
 openingFiveIn system b r =
-    openingFive system (roundMiddle b r ! 0) (keyVector b) (middleIn (nOf system) (mOf system) (roundMiddle b r)) (roundChallenge b r)
+    openingFive system (roundTurn b r ! 0) (keyVector b) (middleIn (nOf system) (mOf system) (roundTurn b r)) (roundChallenge b r)
     (replyFiveIn (nOf system) (roundReply b r))
 
 -- the string with which round r of a record opens commitment k, where its challenge opens it

@@ -18,7 +18,7 @@ use slices::equal;
 use slices::part;
 use transcript::key_vector;
 use transcript::round_challenge;
-use transcript::round_middle;
+use transcript::round_turn;
 use transcript::round_reply;
 ghost use mathlib.Core.Path.{_≡_};
 ghost use Prim.Native.Nat.{_≤_};
@@ -48,7 +48,7 @@ fn opening_five_in<'a>(system: &'a [u8], bytes: &'a [u8], r: u8) -> Text
 {
     let n = byte_at(system, 1);
     let m = byte_at(system, 2);
-    let middle = round_middle(bytes, r);
+    let middle = round_turn(bytes, r);
     opening_five(
         system,
         byte_at(middle, 0),

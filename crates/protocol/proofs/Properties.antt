@@ -121,8 +121,8 @@ module _ {X Y S : Type 0} {o : QuadraticOps X Y S} {IsX : X → Type 0} {IsY : Y
   -- ---- the simulator
 
   -- Simulation: without s, the reply to every challenge but Ch* opens what was committed to.
-  pub simulates : (guess : ℕ) → guess ≤ 2 → (v : Y) (s′ r0 t0 : X) (e0 : Y) → IsY v → IsX s′ → IsX r0 → IsX t0 → IsY e0 →
-      (challenge : ℕ) → (challenge ≡ guess → ⊥) → OpensThree o v (simulated o guess v s′ r0 t0 e0) challenge
+  pub simulates : (unanswered : ℕ) → unanswered ≤ 2 → (v : Y) (s′ r0 t0 : X) (e0 : Y) → IsY v → IsX s′ → IsX r0 → IsX t0 → IsY e0 →
+      (challenge : ℕ) → (challenge ≡ unanswered → ⊥) → OpensThree o v (simulated o unanswered v s′ r0 t0 e0) challenge
   unfolding simulated simulatedE1 simulatedMask t1Of e1Of t0Of e0Of
   simulates zero h v s′ r0 t0 e0 hv hs hr ht he challenge differ =
       let r1 = r1Of o s′ r0 in
@@ -150,7 +150,7 @@ module _ {X Y S : Type 0} {o : QuadraticOps X Y S} {IsX : X → Type 0} {IsY : Y
         one = λ c. refl;
         two = λ c. absurd (differ c);
       }
-  simulates (suc (suc (suc guess))) h v s′ r0 t0 e0 hv hs hr ht he challenge differ = absurd (omega arith)
+  simulates (suc (suc (suc unanswered))) h v s′ r0 t0 e0 hv hs hr ht he challenge differ = absurd (omega arith)
 
   -- ---- elements
 
@@ -169,9 +169,9 @@ module _ {X Y S : Type 0} {o : QuadraticOps X Y S} {IsX : X → Type 0} {IsY : Y
   unfolding cardFive r1Of t1By e1By masked
   are-elements-five α s r0 t0 e0 hr ht he = formed s (mulX α r0) r0 t0 e0 _ _ hr ht he (k .groupY .sub-is _ _) (k .groupY .add-is _ _)
 
-  pub are-elements-simulated : (guess : ℕ) (v : Y) (s′ r0 t0 : X) (e0 : Y) → IsX r0 → IsX t0 → IsY e0 →
-      AreElements IsX IsY (simulated o guess v s′ r0 t0 e0)
+  pub are-elements-simulated : (unanswered : ℕ) (v : Y) (s′ r0 t0 : X) (e0 : Y) → IsX r0 → IsX t0 → IsY e0 →
+      AreElements IsX IsY (simulated o unanswered v s′ r0 t0 e0)
   unfolding simulated simulatedE1 simulatedMask r1Of t1Of e1Of masked unmasked
-  are-elements-simulated guess v s′ r0 t0 e0 hr ht he =
-      formed s′ r0 r0 t0 e0 _ _ hr ht he (either IsY (eqb guess 0) _ _ (k .groupY .sub-is _ _) (k .groupY .sub-is _ _))
-      (either IsY (eqb guess 2) _ _ (k .groupY .sub-is _ _) (k .groupY .add-is _ _))
+  are-elements-simulated unanswered v s′ r0 t0 e0 hr ht he =
+      formed s′ r0 r0 t0 e0 _ _ hr ht he (either IsY (eqb unanswered 0) _ _ (k .groupY .sub-is _ _) (k .groupY .sub-is _ _))
+      (either IsY (eqb unanswered 2) _ _ (k .groupY .sub-is _ _) (k .groupY .add-is _ _))

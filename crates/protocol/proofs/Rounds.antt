@@ -42,8 +42,8 @@ module _ (b : List ℕ) (good : systemRefusal b ≡ 0) where
   soundness-five = sound-five quadratic-map
 
   -- Simulation.
-  pub simulation : (guess : ℕ) → guess ≤ 2 → (v s′ r0 t0 e0 : List ℕ) → IsY b v → IsX b s′ → IsX b r0 → IsX b t0 → IsY b e0 →
-      (challenge : ℕ) → (challenge ≡ guess → ⊥) → OpensThree (mapOf b) v (simulated (mapOf b) guess v s′ r0 t0 e0) challenge
+  pub simulation : (unanswered : ℕ) → unanswered ≤ 2 → (v s′ r0 t0 e0 : List ℕ) → IsY b v → IsX b s′ → IsX b r0 → IsX b t0 → IsY b e0 →
+      (challenge : ℕ) → (challenge ≡ unanswered → ⊥) → OpensThree (mapOf b) v (simulated (mapOf b) unanswered v s′ r0 t0 e0) challenge
   simulation = simulates quadratic-map
 
   -- The vectors that are formed in a round are vectors of n and of m elements, where those lent are.
@@ -53,6 +53,6 @@ module _ (b : List ℕ) (good : systemRefusal b ≡ 0) where
   pub elements-five : (α : ℕ) (s r0 t0 e0 : List ℕ) → IsX b r0 → IsX b t0 → IsY b e0 → AreElements (IsX b) (IsY b) (cardFive (mapOf b) α s r0 t0 e0)
   elements-five = are-elements-five quadratic-map
 
-  pub elements-simulated : (guess : ℕ) (v s′ r0 t0 e0 : List ℕ) → IsX b r0 → IsX b t0 → IsY b e0 →
-      AreElements (IsX b) (IsY b) (simulated (mapOf b) guess v s′ r0 t0 e0)
+  pub elements-simulated : (unanswered : ℕ) (v s′ r0 t0 e0 : List ℕ) → IsX b r0 → IsX b t0 → IsY b e0 →
+      AreElements (IsX b) (IsY b) (simulated (mapOf b) unanswered v s′ r0 t0 e0)
   elements-simulated = are-elements-simulated quadratic-map

@@ -38,7 +38,7 @@ module _ (o : Ops) (k : Ring o) where
     unfolding vector
     is-vector f below =
         record {
-          held = vector-cong n f _ (λ i h l. sym (vector-at n f i h l));
+          padded = vector-cong n f _ (λ i h l. sym (vector-at n f i h l));
           elements = λ i.
               elim (decLe n i) [
                 | yes h ↦ rw (vector-beyond n f i h) (k .zero-below)
@@ -52,7 +52,7 @@ module _ (o : Ops) (k : Ring o) where
 
     -- vectors with the same elements are equal
     same-vector : (x y : List ℕ) → IsVector o n x → IsVector o n y → ((i : ℕ) → i < n → i < 96 → x ! i ≡ y ! i) → x ≡ y
-    same-vector x y hx hy same = hx .held ∙ vector-cong n _ _ same ∙ sym (hy .held)
+    same-vector x y hx hy same = hx .padded ∙ vector-cong n _ _ same ∙ sym (hy .padded)
 
     pub vectors : AbelianGroup (List ℕ) (IsVector o n) (addV o n) (subV o n)
     unfolding addV subV
@@ -62,7 +62,7 @@ module _ (o : Ops) (k : Ring o) where
           sub-is = λ x y. is-vector _ (λ i h. k .sub-below _ _);
           add-assoc = λ x y z. vector-cong n _ _ (λ i h l. simp vector-at (k .add-assoc (x ! i) (y ! i) (z ! i)));
           add-comm = λ x y. vector-cong n _ _ (λ i h l. k .add-comm (x ! i) (y ! i));
-          sub-add = λ x y hx. vector-cong n _ _ (λ i h l. simp vector-at (k .sub-add (x ! i) (y ! i) (hx .elements i))) ∙ sym (hx .held);
+          sub-add = λ x y hx. vector-cong n _ _ (λ i h l. simp vector-at (k .sub-add (x ! i) (y ! i) (hx .elements i))) ∙ sym (hx .padded);
         }
 
     mulV-add : (a : ℕ) (x y : List ℕ) → mulV o n a (addV o n x y) ≡ addV o n (mulV o n a x) (mulV o n a y)

@@ -128,16 +128,16 @@ module _ {X Y S : Type 0} (o : QuadraticOps X Y S) where
 
   -- "e1 = F(r0) - e0, or for Ch* = 0 v - F(s') + F(r0) - e0"
   unfoldable pub simulatedE1 : ℕ → Y → X → X → Y → Y
-  simulatedE1 guess v s′ r0 e0 = cond (eqb guess 0) (subY (addY (subY v (F s′)) (F r0)) e0) (e1Of r0 e0)
+  simulatedE1 unanswered v s′ r0 e0 = cond (eqb unanswered 0) (subY (addY (subY v (F s′)) (F r0)) e0) (e1Of r0 e0)
 
   -- "For Ch* = 2, c0 uses v - F(r1) - G(t1,r1) - e1. All else is formed as on the card."
   unfoldable pub simulatedMask : ℕ → Y → X → X → X → Y → Y → Y
-  simulatedMask guess v r1 t0 t1 e0 e1 = cond (eqb guess 2) (unmasked v r1 t1 e1) (masked t0 r1 e0)
+  simulatedMask unanswered v r1 t0 t1 e0 e1 = cond (eqb unanswered 2) (unmasked v r1 t1 e1) (masked t0 r1 e0)
 
-  -- "it forms r1 = s' - r0, t1 = r0 - t0"; `guess` is Ch*, the challenge to which it cannot reply
+  -- "it forms r1 = s' - r0, t1 = r0 - t0"; `unanswered` is Ch*, the challenge to which it cannot reply
   unfoldable pub simulated : ℕ → Y → X → X → X → Y → Vectors X Y
-  simulated guess v s′ r0 t0 e0 =
+  simulated unanswered v s′ r0 t0 e0 =
       let r1 = r1Of s′ r0 in
       let t1 = t1Of r0 t0 in
-      let e1 = simulatedE1 guess v s′ r0 e0 in
-      record { r0 = r0; r1 = r1; t0 = t0; t1 = t1; e0 = e0; e1 = e1; mask = simulatedMask guess v r1 t0 t1 e0 e1 }
+      let e1 = simulatedE1 unanswered v s′ r0 e0 in
+      record { r0 = r0; r1 = r1; t0 = t0; t1 = t1; e0 = e0; e1 = e1; mask = simulatedMask unanswered v r1 t0 t1 e0 e1 }

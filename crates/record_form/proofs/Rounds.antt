@@ -13,17 +13,17 @@ use Rattle.slices.specs.Slices.{_!_}
 use Rattle.scheme.specs.Scheme as S
 use Rattle.record_form.specs.declared.layout.Header.{Header}
 use Rattle.record_form.specs.Record.{Fields, Elements, commitmentsLength, exchangeLength, exchangesLength, Valid, ValidExchange}
-use Rattle.record_form.specs.Record.{commitmentsOf, exchangeOf, middleOf, challengeOf, replyOf, vectorsOf}
+use Rattle.record_form.specs.Record.{commitmentsOf, exchangeOf, turnOf, challengeOf, replyOf, vectorsOf}
 use Rattle.record_form.specs.Rounds.{Round, exchangeBytes, joined, fieldsOfRounds, ValidRound, ValidRounds, roundOf}
 use Rattle.record_form.proofs.ValidForm.{values, values-true, header-values-of}
 
 -- ---- an exchange
 
 -- every exchange of the right length is its parts, one behind the other
-pub exchange-is-parts : (h : Header) (x : List ℕ) → length x ≡ exchangeLength h → middleOf h x ++ challengeOf h x ∷ replyOf h x ≡ x
-unfolding exchangeLength S.exchangeLength middleOf challengeOf replyOf
+pub exchange-is-parts : (h : Header) (x : List ℕ) → length x ≡ exchangeLength h → turnOf h x ++ challengeOf h x ∷ replyOf h x ≡ x
+unfolding exchangeLength S.exchangeLength turnOf challengeOf replyOf
 exchange-is-parts h x long =
-    let k = S.middleLength (h .scheme) (h .n) (h .m) in
+    let k = S.turnLength (h .scheme) (h .n) (h .m) in
     let n = S.replyLength (h .scheme) (h .n) (h .m) in
     let rest : take n (drop (k + 1) x) ≡ drop (suc k) x =
     take-all n (drop (k + 1) x) (rw (length-drop (k + 1) x) (omega (arith, long))) ∙ ap (λ (j : ℕ). drop j x) (add-one k)
@@ -36,8 +36,8 @@ module _ (h : Header) (x : Round) (v : ValidRound h x) where
   unfolding exchangeBytes exchangeLength S.exchangeLength
   length-exchange = length-append (x .middle) (x .challenge ∷ x .reply) ∙ omega (arith, v .middle-length, v .reply-length)
 
-  middle-of : middleOf h (exchangeBytes x) ≡ x .middle
-  unfolding exchangeBytes middleOf
+  middle-of : turnOf h (exchangeBytes x) ≡ x .middle
+  unfolding exchangeBytes turnOf
   middle-of = take-at (x .middle) _ _ (v .middle-length)
 
   challenge-of : challengeOf h (exchangeBytes x) ≡ x .challenge
@@ -45,10 +45,10 @@ module _ (h : Header) (x : Round) (v : ValidRound h x) where
   challenge-of = getD-at (x .middle) (x .challenge) (x .reply) 0 _ (v .middle-length)
 
   -- what stands behind the challenge
-  behind : drop (S.middleLength (h .scheme) (h .n) (h .m) + 1) (exchangeBytes x) ≡ x .reply
+  behind : drop (S.turnLength (h .scheme) (h .n) (h .m) + 1) (exchangeBytes x) ≡ x .reply
   unfolding exchangeBytes
   behind =
-      let k = S.middleLength (h .scheme) (h .n) (h .m) in
+      let k = S.turnLength (h .scheme) (h .n) (h .m) in
       let front : length (x .middle ++ x .challenge ∷ []) ≡ k + 1 = length-append (x .middle) (x .challenge ∷ []) ∙ omega (arith, v .middle-length) in
       ap (drop (k + 1)) (sym (append-snoc (x .middle) (x .challenge) (x .reply))) ∙ drop-at (x .middle ++ x .challenge ∷ []) (x .reply) (k + 1) front
 
@@ -127,7 +127,7 @@ module _ (h : Header) (key : List ℕ) (round : ℕ → Round) (v : ValidRounds 
       let x = exchange-at r below in
       let w = v .each-round r below in
       let cs = commitments-at r below in
-      let middle = ap (middleOf h) x ∙ middle-of h (round r) w in
+      let middle = ap (turnOf h) x ∙ middle-of h (round r) w in
       let challenge = ap (challengeOf h) x ∙ challenge-of h (round r) w in
       let reply = ap (replyOf h) x ∙ reply-of h (round r) w in
       λ i. record { commitments = cs i; middle = middle i; challenge = challenge i; reply = reply i }
@@ -185,11 +185,11 @@ module _ (f : Fields) (v : Valid f) where
   fields-of = λ i. record { header = f .header; key = f .key; commitments = commitments-whole i; exchanges = exchanges-whole i }
 
   valid-round : (r : ℕ) → r < f .header .rounds → ValidRound (f .header) (roundOf f r)
-  unfolding roundOf commitmentsOf commitmentsLength middleOf replyOf vectorsOf exchangeLength S.exchangeLength S.replyLength
+  unfolding roundOf commitmentsOf commitmentsLength turnOf replyOf vectorsOf exchangeLength S.exchangeLength S.replyLength
   valid-round r below =
       let h = f .header in
       let x = exchangeOf h (f .exchanges) r in
-      let k = S.middleLength (h .scheme) (h .n) (h .m) in
+      let k = S.turnLength (h .scheme) (h .n) (h .m) in
       let n = S.replyLength (h .scheme) (h .n) (h .m) in
       let long = exchange-long r below in
       let valid = v .each-exchange r below in

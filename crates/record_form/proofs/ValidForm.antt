@@ -14,7 +14,7 @@ use Rattle.scheme.specs.Scheme.{isScheme, isRounds, challenges}
 use Rattle.record_form.specs.declared.layout.Header.{Header}
 use Rattle.record_form.specs.declared.form.Check.{Check}
 use Rattle.record_form.specs.declared.form.Check.the-variants.{FileOrder, Elements, Challenges}
-use Rattle.record_form.specs.Record.{Fields, exchangeOf, middleOf, challengeOf, vectorsOf, ValidExchange, Valid}
+use Rattle.record_form.specs.Record.{Fields, exchangeOf, turnOf, challengeOf, vectorsOf, ValidExchange, Valid}
 use Rattle.record_form.specs.Form.{areValues, exchangeRefusal, exchangesRefusal}
 
 -- ---- the header
@@ -64,7 +64,7 @@ pub valid-parts : (h : Header) (x : List ℕ) → exchangeRefusal Elements h x �
 unfolding exchangeRefusal
 valid-parts h x e c =
     record {
-      middle-elements = all-below-at (h .q) (middleOf h x) (test-holds (allBelow (h .q) (middleOf h x)) 3 tt (first-zero _ _ e));
+      middle-elements = all-below-at (h .q) (turnOf h x) (test-holds (allBelow (h .q) (turnOf h x)) 3 tt (first-zero _ _ e));
       challenge-value = ltb-true (challengeOf h x) (challenges (h .scheme)) (test-holds _ 4 tt c);
       reply-elements = all-below-at (h .q) (vectorsOf h x) (test-holds (allBelow (h .q) (vectorsOf h x)) 3 tt (later-zero _ _ e));
     }

@@ -10,7 +10,7 @@ use Rattle.scheme.specs.Scheme.{isScheme, isRounds, challenges}
 use Rattle.record_form.specs.declared.layout.Header.{Header}
 use Rattle.record_form.specs.declared.form.Check.{Check}
 use Rattle.record_form.specs.declared.form.Check.the-variants.{FileOrder, Elements, Challenges}
-use Rattle.record_form.specs.Record.{exchangeOf, middleOf, challengeOf, vectorsOf}
+use Rattle.record_form.specs.Record.{exchangeOf, turnOf, challengeOf, vectorsOf}
 
 -- 1: "q, n, m, N or scheme outside its values"
 unfoldable pub areValues : Header → Bool
@@ -19,10 +19,10 @@ areValues h = isScheme (h .scheme) && (areSizes (h .q) (h .n) (h .m) && isRounds
 -- "then 3 or 4, the first bad byte in file order", or one of the two alone
 unfoldable pub exchangeRefusal : Check → Header → List ℕ → ℕ
 exchangeRefusal FileOrder h x =
-    unless (allBelow (h .q) (middleOf h x)) 3 orElse
+    unless (allBelow (h .q) (turnOf h x)) 3 orElse
     unless (ltb (challengeOf h x) (challenges (h .scheme))) 4 orElse
     unless (allBelow (h .q) (vectorsOf h x)) 3
-exchangeRefusal Elements h x = unless (allBelow (h .q) (middleOf h x)) 3 orElse unless (allBelow (h .q) (vectorsOf h x)) 3
+exchangeRefusal Elements h x = unless (allBelow (h .q) (turnOf h x)) 3 orElse unless (allBelow (h .q) (vectorsOf h x)) 3
 exchangeRefusal Challenges h x = unless (ltb (challengeOf h x) (challenges (h .scheme))) 4
 
 -- of all rounds

@@ -96,26 +96,26 @@ unfoldable pub exchangeOf : Header → List ℕ → ℕ → List ℕ
 exchangeOf h exchanges r = take (exchangeLength h) (drop (r * exchangeLength h) exchanges)
 
 -- "scheme 5, α, t1, e1": nothing in scheme 3
-unfoldable pub middleOf : Header → List ℕ → List ℕ
-middleOf h exchange = take (S.middleLength (h .scheme) (h .n) (h .m)) exchange
+unfoldable pub turnOf : Header → List ℕ → List ℕ
+turnOf h exchange = take (S.turnLength (h .scheme) (h .n) (h .m)) exchange
 
 -- "challenge byte"
 unfoldable pub challengeOf : Header → List ℕ → ℕ
-challengeOf h exchange = exchange ! S.middleLength (h .scheme) (h .n) (h .m)
+challengeOf h exchange = exchange ! S.turnLength (h .scheme) (h .n) (h .m)
 
 -- "and reply"
 unfoldable pub replyOf : Header → List ℕ → List ℕ
-replyOf h exchange = take (S.replyLength (h .scheme) (h .n) (h .m)) (drop (S.middleLength (h .scheme) (h .n) (h .m) + 1) exchange)
+replyOf h exchange = take (S.replyLength (h .scheme) (h .n) (h .m)) (drop (S.turnLength (h .scheme) (h .n) (h .m) + 1) exchange)
 
 -- the reply's vectors, without its ρ
 unfoldable pub vectorsOf : Header → List ℕ → List ℕ
-vectorsOf h exchange = take (S.vectorsLength (h .scheme) (h .n) (h .m)) (drop (S.middleLength (h .scheme) (h .n) (h .m) + 1) exchange)
+vectorsOf h exchange = take (S.vectorsLength (h .scheme) (h .n) (h .m)) (drop (S.turnLength (h .scheme) (h .n) (h .m) + 1) exchange)
 
 -- ---- well-formed
 
 -- an exchange whose elements and challenge are among their values
 pub record ValidExchange (h : Header) (exchange : List ℕ) : Type 0 where
-  pub middle-elements : Elements (h .q) (middleOf h exchange)
+  pub middle-elements : Elements (h .q) (turnOf h exchange)
   pub challenge-value : challengeOf h exchange < S.challenges (h .scheme)
   pub reply-elements : Elements (h .q) (vectorsOf h exchange)
 

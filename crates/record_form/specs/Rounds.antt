@@ -6,7 +6,7 @@ use mathlib.Core.List.{List, [], _∷_, _++_}
 use lib.ListN.{length, take}
 use Rattle.scheme.specs.Scheme as S
 use Rattle.record_form.specs.declared.layout.Header.{Header}
-use Rattle.record_form.specs.Record.{Fields, Elements, exchangeOf, commitmentsOf, middleOf, challengeOf, replyOf}
+use Rattle.record_form.specs.Record.{Fields, Elements, exchangeOf, commitmentsOf, turnOf, challengeOf, replyOf}
 use Rattle.record_form.specs.Form.{areValues}
 
 -- the messages of a round; the middle is α, t1, e1 in scheme 5 and nothing in scheme 3
@@ -38,7 +38,7 @@ fieldsOfRounds h key round =
 -- a round whose messages have their lengths, "every .. element and challenge among its values"
 pub record ValidRound (h : Header) (x : Round) : Type 0 where
   pub commitments-length : length (x .commitments) ≡ S.commitmentsLength (h .scheme)
-  pub middle-length : length (x .middle) ≡ S.middleLength (h .scheme) (h .n) (h .m)
+  pub middle-length : length (x .middle) ≡ S.turnLength (h .scheme) (h .n) (h .m)
   pub reply-length : length (x .reply) ≡ S.replyLength (h .scheme) (h .n) (h .m)
   pub middle-elements : Elements (h .q) (x .middle)
   pub challenge-value : x .challenge < S.challenges (h .scheme)
@@ -57,7 +57,7 @@ roundOf f r =
     let x = exchangeOf (f .header) (f .exchanges) r in
     record {
       commitments = commitmentsOf (f .header) (f .commitments) r;
-      middle = middleOf (f .header) x;
+      middle = turnOf (f .header) x;
       challenge = challengeOf (f .header) x;
       reply = replyOf (f .header) x;
     }

@@ -7,7 +7,7 @@ use scheme::challenges;
 use scheme::exchange_length;
 use scheme::is_rounds;
 use scheme::is_scheme;
-use scheme::middle_length;
+use scheme::turn_length;
 use scheme::of_rounds;
 use scheme::vectors_length;
 use slices::byte_at;
@@ -42,7 +42,7 @@ pub fn are_values(h: Header) -> bool
 fn exchange_refusal(check: Check, h: Header, exchange: &[u8]) -> u8
     ensures { λ r. ⌜ r ≡ exchangeRefusal check h (now (exchange .entry)) ⌝ }
 {
-    let middle = middle_length(h.scheme, h.n, h.m);
+    let middle = turn_length(h.scheme, h.n, h.m);
     let vectors = vectors_length(h.scheme, h.n, h.m);
     let before = unless(all_below(h.q, part(exchange, 0, middle)), 3);
     let challenge = unless(byte_at(exchange, middle) < challenges(h.scheme), 4);

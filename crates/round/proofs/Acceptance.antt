@@ -61,9 +61,9 @@ module _ (b v : List ℕ) (ρ : Rhos) where
         opened-five α s r0 t0 e0 challenge h (completeness-five b good α v s r0 t0 e0 hs ht he key challenge)
 
     -- Simulation: for every Ch* and every Ch other than it the simulator's reply is accepted, with any v, s' and lent values
-    pub accepted-simulated : (guess : ℕ) → guess ≤ 2 → (s′ r0 t0 e0 : List ℕ) → IsY b v → IsX b s′ → IsX b r0 → IsX b t0 → IsY b e0 →
-        (challenge : ℕ) → challenge ≤ 2 → (challenge ≡ guess → ⊥) →
-        let w = simulated (mapOf b) guess v s′ r0 t0 e0 in
+    pub accepted-simulated : (unanswered : ℕ) → unanswered ≤ 2 → (s′ r0 t0 e0 : List ℕ) → IsY b v → IsX b s′ → IsX b r0 → IsX b t0 → IsY b e0 →
+        (challenge : ℕ) → challenge ≤ 2 → (challenge ≡ unanswered → ⊥) →
+        let w = simulated (mapOf b) unanswered v s′ r0 t0 e0 in
         acceptsThree b v (commitmentsThree (nOf b) (mOf b) w ρ) challenge (replyThree w ρ challenge) ≡ true
-    accepted-simulated guess hg s′ r0 t0 e0 hv hs hr ht he challenge h other =
-        opened-three (simulated (mapOf b) guess v s′ r0 t0 e0) challenge h (simulation b good guess hg v s′ r0 t0 e0 hv hs hr ht he challenge other)
+    accepted-simulated unanswered hg s′ r0 t0 e0 hv hs hr ht he challenge h other =
+        opened-three (simulated (mapOf b) unanswered v s′ r0 t0 e0) challenge h (simulation b good unanswered hg v s′ r0 t0 e0 hv hs hr ht he challenge other)

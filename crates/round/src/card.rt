@@ -58,21 +58,21 @@ pub fn unmask(system: &[u8], v: [u8; 96], r1: [u8; 96], t1: [u8; 96], e1: [u8; 9
     sub_vectors(q, m, sub_vectors(q, m, left, g(system, t1, r1)), e1)
 }
 
-// The simulator's e1, where `guess` is the challenge to which it cannot reply.
+// The simulator's e1, where `unanswered` is the challenge to which it cannot reply.
 fn simulated_e1(
     system: &[u8],
-    guess: u8,
+    unanswered: u8,
     v: [u8; 96],
     s: [u8; 96],
     r0: [u8; 96],
     e0: [u8; 96],
 ) -> [u8; 96]
     requires { ⌜ systemRefusal (now system) ≡ 0 ⌝ }
-    ensures { λ r. ⌜ r ≡ simulatedE1 (mapOf (now (system .entry))) guess v s r0 e0 ⌝ }
+    ensures { λ r. ⌜ r ≡ simulatedE1 (mapOf (now (system .entry))) unanswered v s r0 e0 ⌝ }
 {
     let q = byte_at(system, 0);
     let m = byte_at(system, 2);
-    match guess {
+    match unanswered {
         0 => {
             let left = sub_vectors(q, m, v, f(system, s));
             sub_vectors(q, m, add_vectors(q, m, left, f(system, r0)), e0)
@@ -84,7 +84,7 @@ fn simulated_e1(
 // What the simulator commits to beside r1.
 fn simulated_mask(
     system: &[u8],
-    guess: u8,
+    unanswered: u8,
     v: [u8; 96],
     r1: [u8; 96],
     t0: [u8; 96],
@@ -93,11 +93,11 @@ fn simulated_mask(
     e1: [u8; 96],
 ) -> [u8; 96]
     requires { ⌜ systemRefusal (now system) ≡ 0 ⌝ }
-    ensures { λ r. ⌜ r ≡ simulatedMask (mapOf (now (system .entry))) guess v r1 t0 t1 e0 e1 ⌝ }
+    ensures { λ r. ⌜ r ≡ simulatedMask (mapOf (now (system .entry))) unanswered v r1 t0 t1 e0 e1 ⌝ }
 {
     let q = byte_at(system, 0);
     let m = byte_at(system, 2);
-    match guess {
+    match unanswered {
         2 => unmask(system, v, r1, t1, e1),
         _ => add_vectors(q, m, g(system, t0, r1), e0),
     }
@@ -106,7 +106,7 @@ fn simulated_mask(
 // The simulator's vectors, formed without the secret.
 pub fn simulated(
     system: &[u8],
-    guess: u8,
+    unanswered: u8,
     v: [u8; 96],
     s: [u8; 96],
     r0: [u8; 96],
@@ -114,13 +114,13 @@ pub fn simulated(
     e0: [u8; 96],
 ) -> Vectors
     requires { ⌜ systemRefusal (now system) ≡ 0 ⌝ }
-    ensures { λ r. ⌜ vectorsOf r ≡ simulatedOf (mapOf (now (system .entry))) guess v s r0 t0 e0 ⌝ }
+    ensures { λ r. ⌜ vectorsOf r ≡ simulatedOf (mapOf (now (system .entry))) unanswered v s r0 t0 e0 ⌝ }
 {
     let q = byte_at(system, 0);
     let n = byte_at(system, 1);
     let r1 = sub_vectors(q, n, s, r0);
     let t1 = sub_vectors(q, n, r0, t0);
-    let e1 = simulated_e1(system, guess, v, s, r0, e0);
+    let e1 = simulated_e1(system, unanswered, v, s, r0, e0);
     Vectors {
         r0: r0,
         r1: r1,
@@ -128,6 +128,6 @@ pub fn simulated(
         t1: t1,
         e0: e0,
         e1: e1,
-        mask: simulated_mask(system, guess, v, r1, t0, t1, e0, e1),
+        mask: simulated_mask(system, unanswered, v, r1, t0, t1, e0, e1),
     }
 }

@@ -20,8 +20,8 @@ unfoldable pub commitmentsLength : ℕ → ℕ
 commitmentsLength scheme = cond (eqb scheme 3) 96 64
 
 -- what stands between the commitments and the challenge: nothing; "scheme 5, α, t1, e1"
-unfoldable pub middleLength : ℕ → ℕ → ℕ → ℕ
-middleLength scheme n m = cond (eqb scheme 3) 0 (1 + n + m)
+unfoldable pub turnLength : ℕ → ℕ → ℕ → ℕ
+turnLength scheme n m = cond (eqb scheme 3) 0 (1 + n + m)
 
 -- the elements of a reply, which stand before its ρ: two vectors of n elements and one of m; "reply r0, ρ0", "reply r1, ρ1"
 unfoldable pub vectorsLength : ℕ → ℕ → ℕ → ℕ
@@ -37,4 +37,4 @@ replyLength scheme n m = vectorsLength scheme n m + rhosLength scheme
 
 -- "Exchange: scheme 3, challenge byte and reply; scheme 5, α, t1, e1, challenge byte, reply."
 unfoldable pub exchangeLength : ℕ → ℕ → ℕ → ℕ
-exchangeLength scheme n m = middleLength scheme n m + (1 + replyLength scheme n m)
+exchangeLength scheme n m = turnLength scheme n m + (1 + replyLength scheme n m)

@@ -3,7 +3,7 @@
 // Every function is total; a scheme other than 3 is taken as 5, and every entry refuses one that is neither first.
 ghost use mathlib.Core.Path.{_≡_};
 ghost use Prim.Native.Nat.{_*_, _≤_};
-ghost use Rattle.scheme.specs.Scheme.{isScheme, isRounds, challenges as challengesOf, commitmentsLength, middleLength, vectorsLength, rhosLength, replyLength, exchangeLength};
+ghost use Rattle.scheme.specs.Scheme.{isScheme, isRounds, challenges as challengesOf, commitmentsLength, turnLength, vectorsLength, rhosLength, replyLength, exchangeLength};
 
 pub fn is_scheme(scheme: u8) -> bool
     ensures { λ r. ⌜ r ≡ isScheme scheme ⌝ }
@@ -37,8 +37,8 @@ pub fn commitments_length(scheme: u8) -> usize
 }
 
 // The bytes between commitments and challenge: none, or α, t1 and e1.
-pub fn middle_length(scheme: u8, n: u8, m: u8) -> usize
-    ensures { λ r. ⌜ (r ≡ middleLength scheme n m) × (r ≤ 511) ⌝ }
+pub fn turn_length(scheme: u8, n: u8, m: u8) -> usize
+    ensures { λ r. ⌜ (r ≡ turnLength scheme n m) × (r ≤ 511) ⌝ }
 {
     if scheme == 3 {
         0
@@ -76,7 +76,7 @@ pub fn reply_length(scheme: u8, n: u8, m: u8) -> usize
 pub fn exchange_length(scheme: u8, n: u8, m: u8) -> usize
     ensures { λ r. ⌜ (r ≡ exchangeLength scheme n m) × (r ≤ 1341) ⌝ }
 {
-    middle_length(scheme, n, m) + (1 + reply_length(scheme, n, m))
+    turn_length(scheme, n, m) + (1 + reply_length(scheme, n, m))
 }
 
 // The bytes of so many rounds: also where, among the bytes of all rounds, the next one starts.

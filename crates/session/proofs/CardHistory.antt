@@ -10,7 +10,7 @@ use native.Mathlib.Omega.{arith}
 use lib.Dec.{eqb}
 use borrow.Author.Tests.{ne-eqb, lt-ltb, le-ltb}
 use Rattle.slices.specs.Slices.{zeros}
-use Rattle.field.specs.Vector.{held}
+use Rattle.field.specs.Vector.{asVector}
 use Rattle.system.specs.System.{nOf, mOf}
 use Rattle.exchange.specs.Messages.{lentIn}
 use Rattle.exchange.specs.Card.{threeVectors}
@@ -39,7 +39,7 @@ module _ (o : Opening) where
   -- in a round for which this was lent, with this system
   unfoldable pub heldCard : List ℕ → CardPhase → ℕ → List ℕ → Card
   heldCard b phase r lent =
-      cardWith openCard phase r (lentIn (nOf b) (mOf b) lent) (cond (eqb (o .scheme) 3) (threeVectors b (held (o .secret)) lent .e1) (zeros 96))
+      cardWith openCard phase r (lentIn (nOf b) (mOf b) lent) (cond (eqb (o .scheme) 3) (threeVectors b (asVector (o .secret)) lent .e1) (zeros 96))
 
   pub card-opens : openCard ≡ freshCard 0
   unfolding freshCard openedCard cardWith noLent

@@ -40,8 +40,8 @@ module _ (o : Opening) where
   unfolding sentCommitments St.commitmentsOf freshCard cardWith openedCard
   sent-commitments-is r lent = refl
 
-  pub sent-middle-is : (phase : CardPhase) (r : ℕ) (lent : List ℕ) (α : ℕ) → sentMiddle (heldCard o (o .system) phase r lent) (o .system) α ≡ St.middleOf o lent α
-  unfolding sentMiddle St.middleOf heldCard cardWith openedCard
+  pub sent-middle-is : (phase : CardPhase) (r : ℕ) (lent : List ℕ) (α : ℕ) → sentMiddle (heldCard o (o .system) phase r lent) (o .system) α ≡ St.turnOf o lent α
+  unfolding sentMiddle St.turnOf heldCard cardWith openedCard
   sent-middle-is phase r lent α = refl
 
   pub sent-reply-is : (phase : CardPhase) (r : ℕ) (lent : List ℕ) (challenge : ℕ) → sentReply (heldCard o (o .system) phase r lent) challenge ≡ St.replyOf o lent challenge

@@ -14,7 +14,7 @@ use borrow.Author.Tests.{eqb-true, eqb-false, ne-eqb, lt-ltb, le-ltb}
 use Rattle.slices.specs.Slices.{_!_, zeros}
 use Rattle.slices.proofs.Tabulate.{tabulate-at}
 use Rattle.refusal.proofs.Refusals.{first-zero, later-zero, equal-holds}
-use Rattle.field.specs.Vector.{held}
+use Rattle.field.specs.Vector.{asVector}
 use Rattle.system.specs.System.{nOf, mOf}
 use Rattle.scheme.specs.Scheme.{commitmentsLength}
 use Rattle.exchange.specs.Messages.{accepts}
@@ -25,7 +25,7 @@ use Rattle.session_state.proofs.States.{state-due, count-below}
 use Rattle.carrier_state.specs.declared.session.CarrierPhase.{CarrierPhase}
 use Rattle.carrier_state.specs.declared.session.CarrierPhase.the-variants.{TakeCommitments, SetAlpha, TakeMiddle, SetChallenge, TakeReply}
 use Rattle.carrier_state.specs.declared.session.Carrier.{Carrier}
-use Rattle.carrier_state.specs.Carrier.{phaseNumber, closedCarrier, carrierWith, heldMiddle, openedCarrier, commitmentsRefusal, withCommitments, alphaRefusal, withAlpha, middleRefusal, withMiddle, challengeRefusal, withChallenge, replyRefusal, acceptsReply, judgedCarrier}
+use Rattle.carrier_state.specs.Carrier.{phaseNumber, closedCarrier, carrierWith, heldTurn, openedCarrier, commitmentsRefusal, withCommitments, alphaRefusal, withAlpha, middleRefusal, withMiddle, challengeRefusal, withChallenge, replyRefusal, acceptsReply, judgedCarrier}
 use Rattle.session.specs.Session.{Opening, Log, put, Asked, Taken, Judgement, History, World, carrierMoves}
 use Rattle.session.specs.Histories.{Middle, none-sent, sent, JudgedByCheck}
 use Rattle.session.proofs.Logs.{Clear, Stays, same-message, put-there, put-other, put-stays, put-clear, clear-next}
@@ -72,22 +72,22 @@ module _ (o : Opening) where
   carrier-opens = refl
 
   pub took-commitments : (r : ℕ) (c : List ℕ) (phase : CarrierPhase) → cond (eqb (o .scheme) 3) SetChallenge SetAlpha ≡ phase →
-      withCommitments (carrierAt TakeCommitments r (zeros 96) (zeros 193) 0) c ≡ carrierAt phase r (held c) (zeros 193) 0
+      withCommitments (carrierAt TakeCommitments r (zeros 96) (zeros 193) 0) c ≡ carrierAt phase r (asVector c) (zeros 193) 0
   unfolding withCommitments carrierAt carrierWith openedCarrier
-  took-commitments r c phase e = ap (λ (p : CarrierPhase). carrierAt p r (held c) (zeros 193) 0) e
+  took-commitments r c phase e = ap (λ (p : CarrierPhase). carrierAt p r (asVector c) (zeros 193) 0) e
 
-  took-alpha : (r : ℕ) (c m : List ℕ) (α : ℕ) → withAlpha (carrierAt SetAlpha r c m 0) α ≡ carrierAt TakeMiddle r c (heldMiddle α []) 0
+  took-alpha : (r : ℕ) (c m : List ℕ) (α : ℕ) → withAlpha (carrierAt SetAlpha r c m 0) α ≡ carrierAt TakeMiddle r c (heldTurn α []) 0
   unfolding withAlpha carrierAt carrierWith openedCarrier
   took-alpha r c m α = refl
 
-  alpha-held : (α : ℕ) → heldMiddle α [] ! 0 ≡ α
-  unfolding heldMiddle
+  alpha-held : (α : ℕ) → heldTurn α [] ! 0 ≡ α
+  unfolding heldTurn
   alpha-held α = tabulate-at 193 (λ i. (α ∷ []) ! i) 0 (omega arith)
 
   took-middle : (r : ℕ) (c : List ℕ) (α : ℕ) (l : List ℕ) →
-      withMiddle (carrierAt TakeMiddle r c (heldMiddle α []) 0) l ≡ carrierAt SetChallenge r c (heldMiddle α l) 0
+      withMiddle (carrierAt TakeMiddle r c (heldTurn α []) 0) l ≡ carrierAt SetChallenge r c (heldTurn α l) 0
   unfolding withMiddle carrierAt carrierWith openedCarrier
-  took-middle r c α l = ap (λ (k : ℕ). carrierAt SetChallenge r c (heldMiddle k l) 0) (alpha-held α)
+  took-middle r c α l = ap (λ (k : ℕ). carrierAt SetChallenge r c (heldTurn k l) 0) (alpha-held α)
 
   took-challenge : (r : ℕ) (c m : List ℕ) (challenge : ℕ) → withChallenge (carrierAt SetChallenge r c m 0) challenge ≡ carrierAt TakeReply r c m challenge
   unfolding withChallenge carrierAt carrierWith openedCarrier
@@ -129,18 +129,18 @@ module _ (o : Opening) where
   pub data MiddleHeld (a : Asked) (t : Taken) (r : ℕ) (m : List ℕ) : Type 0 where
     none-held : o .scheme ≡ 3 → MiddleHeld a t r m
     middle-held : (o .scheme ≡ 3 → ⊥) → (α : ℕ) (l : List ℕ) → a .alphas r ≡ some α → t .middles r ≡ some l → length l ≡ nOf (o .system) + mOf (o .system) →
-        m ≡ heldMiddle α l → MiddleHeld a t r m
+        m ≡ heldTurn α l → MiddleHeld a t r m
 
   pub data Progress (a : Asked) (t : Taken) (carrier : Carrier) (r : ℕ) : CarrierPhase → Type 0 where
     commitments-due : carrier ≡ carrierAt TakeCommitments r (zeros 96) (zeros 193) 0 → ClearFrom a t r r r r → Progress a t carrier r TakeCommitments
-    alpha-due : (c : List ℕ) → (o .scheme ≡ 3 → ⊥) → CommitmentsTaken t r c → carrier ≡ carrierAt SetAlpha r (held c) (zeros 193) 0 →
+    alpha-due : (c : List ℕ) → (o .scheme ≡ 3 → ⊥) → CommitmentsTaken t r c → carrier ≡ carrierAt SetAlpha r (asVector c) (zeros 193) 0 →
         ClearFrom a t (r + 1) r r r → Progress a t carrier r SetAlpha
     middle-due : (c : List ℕ) (α : ℕ) → (o .scheme ≡ 3 → ⊥) → CommitmentsTaken t r c → a .alphas r ≡ some α →
-        carrier ≡ carrierAt TakeMiddle r (held c) (heldMiddle α []) 0 → ClearFrom a t (r + 1) (r + 1) r r → Progress a t carrier r TakeMiddle
-    challenge-due : (c m : List ℕ) → CommitmentsTaken t r c → MiddleHeld a t r m → carrier ≡ carrierAt SetChallenge r (held c) m 0 →
+        carrier ≡ carrierAt TakeMiddle r (asVector c) (heldTurn α []) 0 → ClearFrom a t (r + 1) (r + 1) r r → Progress a t carrier r TakeMiddle
+    challenge-due : (c m : List ℕ) → CommitmentsTaken t r c → MiddleHeld a t r m → carrier ≡ carrierAt SetChallenge r (asVector c) m 0 →
         ClearFrom a t (r + 1) (r + 1) (r + 1) r → Progress a t carrier r SetChallenge
     reply-due : (c m : List ℕ) (challenge : ℕ) → CommitmentsTaken t r c → MiddleHeld a t r m → a .challenges r ≡ some challenge →
-        carrier ≡ carrierAt TakeReply r (held c) m challenge → ClearFrom a t (r + 1) (r + 1) (r + 1) (r + 1) → Progress a t carrier r TakeReply
+        carrier ≡ carrierAt TakeReply r (asVector c) m challenge → ClearFrom a t (r + 1) (r + 1) (r + 1) (r + 1) → Progress a t carrier r TakeReply
 
   pub data CarrierState (a : Asked) (t : Taken) (j : Log Judgement) (carrier : Carrier) (r : ℕ) : Type 0 where
     going : (p : CarrierPhase) → r < o .rounds → AllAccepted j r → Progress a t carrier r p → CarrierState a t j carrier r
@@ -328,7 +328,7 @@ module _ (o : Opening) where
   with-alpha : (a : Asked) (t : Taken) (carrier : Carrier) (r α : ℕ) → Progress a t carrier r SetAlpha →
       Progress (withAlphas a r α) t (withAlpha carrier α) r TakeMiddle
   with-alpha a t carrier r α (alpha-due c five taken e clear) =
-      middle-due c α five taken (put-there (a .alphas) r α) (ap (λ (k : Carrier). withAlpha k α) e ∙ took-alpha r (held c) (zeros 193) α)
+      middle-due c α five taken (put-there (a .alphas) r α) (ap (λ (k : Carrier). withAlpha k α) e ∙ took-alpha r (asVector c) (zeros 193) α)
       (record {
         no-commitments = clear .no-commitments;
         no-alphas = put-clear (a .alphas) r α (clear .no-alphas);
@@ -366,8 +366,8 @@ module _ (o : Opening) where
   with-middle : (a : Asked) (t : Taken) (carrier : Carrier) (r : ℕ) (l : List ℕ) → length l ≡ nOf (o .system) + mOf (o .system) →
       Progress a t carrier r TakeMiddle → Progress a (record { commitments = t .commitments; middles = put (t .middles) r l }) (withMiddle carrier l) r SetChallenge
   with-middle a t carrier r l long (middle-due c α five taken set e clear) =
-      challenge-due c (heldMiddle α l) (record { taken = taken .taken; long = taken .long })
-      (middle-held five α l set (put-there (t .middles) r l) long refl) (ap (λ (k : Carrier). withMiddle k l) e ∙ took-middle r (held c) α l)
+      challenge-due c (heldTurn α l) (record { taken = taken .taken; long = taken .long })
+      (middle-held five α l set (put-there (t .middles) r l) long refl) (ap (λ (k : Carrier). withMiddle k l) e ∙ took-middle r (asVector c) α l)
       (record {
         no-commitments = clear .no-commitments;
         no-alphas = clear .no-alphas;
@@ -413,7 +413,7 @@ module _ (o : Opening) where
       Progress (withChallenges a r challenge) t (withChallenge carrier challenge) r TakeReply
   with-challenge a t carrier r challenge (challenge-due c m taken middle e clear) =
       reply-due c m challenge taken (still-held a t r challenge m middle) (put-there (a .challenges) r challenge)
-      (ap (λ (k : Carrier). withChallenge k challenge) e ∙ took-challenge r (held c) m challenge)
+      (ap (λ (k : Carrier). withChallenge k challenge) e ∙ took-challenge r (asVector c) m challenge)
       (record {
         no-commitments = clear .no-commitments;
         no-alphas = clear .no-alphas;
@@ -461,32 +461,32 @@ module _ (o : Opening) where
     pub commitments-taken : t .commitments r ≡ some commitments
     pub middle-taken : Middle o (a .alphas) (t .middles) r middle
     pub challenge-set : a .challenges r ≡ some challenge
-    pub verdict : acceptsReply carrier b reply ≡ accepts b (o .scheme) (held (o .key)) commitments middle challenge reply
+    pub verdict : acceptsReply carrier b reply ≡ accepts b (o .scheme) (asVector (o .key)) commitments middle challenge reply
 
   held-verdict : (phase : CarrierPhase) (r : ℕ) (c m : List ℕ) (challenge : ℕ) (b reply : List ℕ) →
-      acceptsReply (carrierAt phase r c m challenge) b reply ≡ accepts b (o .scheme) (held (o .key)) c m challenge reply
+      acceptsReply (carrierAt phase r c m challenge) b reply ≡ accepts b (o .scheme) (asVector (o .key)) c m challenge reply
   unfolding acceptsReply carrierAt carrierWith openedCarrier
   held-verdict phase r c m challenge b reply = refl
 
-  held-reads : (α : ℕ) (l : List ℕ) → length (α ∷ l) ≤ 193 → (i : ℕ) → heldMiddle α l ! i ≡ (α ∷ l) ! i
-  unfolding heldMiddle
+  held-reads : (α : ℕ) (l : List ℕ) → length (α ∷ l) ≤ 193 → (i : ℕ) → heldTurn α l ! i ≡ (α ∷ l) ! i
+  unfolding heldTurn
   held-reads α l room = reads-tabulate 193 (α ∷ l) room
 
   module _ (k : CarrierOpens) where
     middle-read : (a : Asked) (t : Taken) (r : ℕ) (c m : List ℕ) (challenge : ℕ) (b reply : List ℕ) → length c ≡ commitmentsLength (o .scheme) → MiddleHeld a t r m →
         (l : List ℕ) × Middle o (a .alphas) (t .middles) r l ×
-        (accepts b (o .scheme) (held (o .key)) (held c) m challenge reply ≡ accepts b (o .scheme) (held (o .key)) c l challenge reply)
+        (accepts b (o .scheme) (asVector (o .key)) (asVector c) m challenge reply ≡ accepts b (o .scheme) (asVector (o .key)) c l challenge reply)
     middle-read a t r c m challenge b reply long (none-held three) =
         let reads = reads-vector c (omega (arith, few-commitments)) in (
           [],
           none-sent three,
-          rw three (same-verdict b 3 (held (o .key)) (held c) c m m challenge reply reads (λ i. refl) ∙ no-middle-read b (held (o .key)) c m [] challenge reply),
+          rw three (same-verdict b 3 (asVector (o .key)) (asVector c) c m m challenge reply reads (λ i. refl) ∙ no-middle-read b (asVector (o .key)) c m [] challenge reply),
         )
     middle-read a t r c m challenge b reply long (middle-held five α l set taken size e) =
         let reads = reads-vector c (omega (arith, few-commitments)) in (
           α ∷ l,
           sent five α l set taken,
-          rw e (same-verdict b (o .scheme) (held (o .key)) (held c) c (heldMiddle α l) (α ∷ l) challenge reply reads (held-reads α l (omega (arith, k .small)))),
+          rw e (same-verdict b (o .scheme) (asVector (o .key)) (asVector c) c (heldTurn α l) (α ∷ l) challenge reply reads (held-reads α l (omega (arith, k .small)))),
         )
 
     checks : (a : Asked) (t : Taken) (carrier : Carrier) (r : ℕ) (b reply : List ℕ) → Progress a t carrier r TakeReply → Checked a t carrier r b reply
@@ -499,7 +499,7 @@ module _ (o : Opening) where
           commitments-taken = taken .taken;
           middle-taken = is;
           challenge-set = set;
-          verdict = ap (λ (x : Carrier). acceptsReply x b reply) e ∙ held-verdict TakeReply r (held c) m challenge b reply ∙ same;
+          verdict = ap (λ (x : Carrier). acceptsReply x b reply) e ∙ held-verdict TakeReply r (asVector c) m challenge b reply ∙ same;
         }
 
     pub reply-checked : (w : World) (b reply : List ℕ) → CarrierHistory w → replyRefusal (w .carrier) b reply ≡ 0 →
@@ -527,16 +527,16 @@ module _ (o : Opening) where
         go : Progress a t carrier r TakeReply → (answer : Bool) → x .answer ≡ answer → CarrierState a t (put j r x) (judgedCarrier carrier answer) (r + 1)
         go (reply-due c m challenge taken middle set e clear) false is-false =
             rejected r refl below (before-put j r x (f .all-accepted)) (x, put-there j r x, is-false)
-            (ap (λ (y : Carrier). judgedCarrier y false) e ∙ judged-rejected r (held c) m challenge)
+            (ap (λ (y : Carrier). judgedCarrier y false) e ∙ judged-rejected r (asVector c) m challenge)
         go (reply-due c m challenge taken middle set e clear) true is-true =
             let all = put-accepted j r x (f .all-accepted) is-true in
             let is = ap (λ (y : Carrier). judgedCarrier y true) e in
             elim (decLe (o .rounds) (r + 1)) [
-              | yes last ↦ accepted (omega (arith, below, last)) all (is ∙ judged-last r (held c) m challenge below last (k .few))
+              | yes last ↦ accepted (omega (arith, below, last)) all (is ∙ judged-last r (asVector c) m challenge below last (k .few))
               | no more ↦
                   let next = lt-of-not-le more in
                   going TakeCommitments next all
-                  (commitments-due (is ∙ judged-next r (held c) m challenge next (k .few))
+                  (commitments-due (is ∙ judged-next r (asVector c) m challenge next (k .few))
                   (record {
                     no-commitments = clear .no-commitments;
                     no-alphas = clear .no-alphas;

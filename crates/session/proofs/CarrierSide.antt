@@ -11,7 +11,7 @@ use lib.ListN.{length, take}
 use borrow.Author.Tests.{eq-eqb, lt-ltb, ltb-true}
 use Rattle.refusal.proofs.Refusals.{first-zero, later-zero, test-holds, equal-holds, both-zero, unless-holds}
 use Rattle.field.specs.Vector.{allBelow}
-use Rattle.system.specs.System.{qOf, nOf, mOf, systemRefusal, lentRefusal}
+use Rattle.system.specs.System.{qOf, nOf, mOf, systemRefusal, systemAgainst}
 use Rattle.system.proofs.SystemLayout.{all-below-at, at-all-below, sizes-has}
 use Rattle.scheme.specs.Scheme.{challenges, commitmentsLength, vectorsLength, replyLength}
 use Rattle.record_form.specs.Record.{Elements}
@@ -124,7 +124,7 @@ module _ (o : Opening) where
   pub reply-goes : (w : World) (reply : List ℕ) → systemRefusal (o .system) ≡ 0 → Link o w → phaseNumber (w .carrier .phase) ≡ 5 →
       length reply ≡ replyLength (o .scheme) (nOf (o .system)) (mOf (o .system)) →
       Elements (qOf (o .system)) (take (vectorsLength (o .scheme) (nOf (o .system)) (mOf (o .system))) reply) → replyRefusal (w .carrier) (o .system) reply ≡ 0
-  unfolding replyRefusal lentRefusal phaseNumber carrierAt carrierWith openedCarrier
+  unfolding replyRefusal systemAgainst phaseNumber carrierAt carrierWith openedCarrier
   reply-goes w reply good l phase long elements =
       rw (is-at w l TakeReply (λ e. absurd (omega arith)) phase .3)
       (both-zero _ _ (due-state 5 5 refl (λ e. absurd (omega arith)))

@@ -131,7 +131,7 @@ module _ (o : Opening) (k : Opens o) where
     lending-is : lending o d ≡ heldCard o (o .system) cardNext 0 (d .lent)
     lending-is = ap (λ (c : Card). committedCard c (o .system) (d .lent)) (card-opens o) ∙ committed-is o 0 (o .system) (d .lent) _ refl
 
-    middle-is : sentMiddle (lending o d) (o .system) (d .α) ≡ St.middleOf o (d .lent) (d .α)
+    middle-is : sentMiddle (lending o d) (o .system) (d .α) ≡ St.turnOf o (d .lent) (d .α)
     middle-is = ap (λ (c : Card). sentMiddle c (o .system) (d .α)) lending-is ∙ sent-middle-is o _ 0 (d .lent) (d .α)
 
     reply-is : sentReply (lending o d) (d .challenge) ≡ St.replyOf o (d .lent) (d .challenge)
@@ -163,11 +163,11 @@ module _ (o : Opening) (k : Opens o) where
     reply-elements = rw reply-is (all-below-at _ _ reply-below)
 
     middle-has-length : length (sentMiddle (lending o d) (o .system) (d .α)) ≡ nOf (o .system) + mOf (o .system)
-    unfolding St.middleOf
+    unfolding St.turnOf
     middle-has-length = ap length middle-is ∙ middle-long (o .system) (k .good) (d .lent) lends (d .α)
 
     middle-has-elements : Elements (qOf (o .system)) (sentMiddle (lending o d) (o .system) (d .α))
-    unfolding St.middleOf
+    unfolding St.turnOf
     middle-has-elements = rw middle-is (all-below-at _ _ (middle-elements (o .system) (k .good) (d .lent) lends (d .α)))
 
     -- ---- the calls between commitments and reply go

@@ -30,8 +30,8 @@ module _ (o : Opening) where
   commitmentsOf lent =
       cond (eqb (o .scheme) 3) (threeCommitments (threeCommitted (o .system) secretOf lent)) (fiveCommitments (fiveCommitted (o .system) secretOf lent))
 
-  unfoldable pub middleOf : List ℕ → ℕ → List ℕ
-  middleOf lent α = middleBytes (nOf (o .system)) (mOf (o .system)) (fiveMiddle (o .system) lent α)
+  unfoldable pub turnOf : List ℕ → ℕ → List ℕ
+  turnOf lent α = middleBytes (nOf (o .system)) (mOf (o .system)) (fiveMiddle (o .system) lent α)
 
   unfoldable pub replyOf : List ℕ → ℕ → List ℕ
   replyOf lent challenge =
@@ -43,7 +43,7 @@ module _ (o : Opening) where
   -- what the card gave between commitments and challenge: nothing, or t1 and e1 for the α that was set
   pub data MiddleGiven (g : Given) (a : Asked) (r : ℕ) (lent : List ℕ) : Type 0 where
     no-middle : o .scheme ≡ 3 → MiddleGiven g a r lent
-    with-middle : (o .scheme ≡ 3 → ⊥) → (α : ℕ) → a .alphas r ≡ some α → g .middles r ≡ some (middleOf lent α) → MiddleGiven g a r lent
+    with-middle : (o .scheme ≡ 3 → ⊥) → (α : ℕ) → a .alphas r ≡ some α → g .middles r ≡ some (turnOf lent α) → MiddleGiven g a r lent
 
   pub data CardState (g : Given) (a : Asked) (card : Card) (r : ℕ) : Type 0 where
     is-fresh : r < o .rounds → card ≡ freshCard o r → Clear (g .commitments) r → Clear (g .middles) r → Clear (g .replies) r → CardState g a card r

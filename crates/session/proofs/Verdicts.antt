@@ -6,7 +6,7 @@ use mathlib.Core.List.{List, [], _∷_}
 use mathlib.Core.Option.{some}
 use native.Mathlib.Omega.{arith}
 use borrow.Author.Tests.{eqb-true, ne-eqb}
-use Rattle.field.specs.Vector.{held}
+use Rattle.field.specs.Vector.{asVector}
 use Rattle.system.specs.System.{nOf, mOf, systemRefusal, F}
 use Rattle.system.proofs.SystemLayout.{accepted}
 use Rattle.scheme.specs.Scheme.{isScheme, challenges}
@@ -32,7 +32,7 @@ pub record Opens (o : Opening) : Type 0 where
   pub few : o .rounds < 256
   pub some-rounds : 0 < o .rounds
   pub secret-is : IsX (o .system) (St.secretOf o)
-  pub key-is : F (o .system) (St.secretOf o) ≡ held (o .key)
+  pub key-is : F (o .system) (St.secretOf o) ≡ asVector (o .key)
 
 pub of-carrier : (o : Opening) → Opens o → CarrierOpens o
 of-carrier o k =
@@ -76,33 +76,33 @@ module _ (o : Opening) where
 
     -- in three passes, with any middle
     three-accepted : o .scheme ≡ 3 → (c m : List ℕ) (challenge : ℕ) → g .commitments r ≡ some c → a .challenges r ≡ some challenge →
-        accepts (o .system) (o .scheme) (held (o .key)) c m challenge reply ≡ true
+        accepts (o .system) (o .scheme) (asVector (o .key)) c m challenge reply ≡ true
     three-accepted three c m challenge given asked =
         let ec = same-message _ _ (sym given ∙ p .commitments-given) ∙ three-commitments (p .lent) three in
         let ech = same-message _ _ (sym asked ∙ p .challenge-given) in
         let er = reply-is ∙ three-reply (p .lent) (p .challenge) three in
         let few = three-challenges (o .scheme) (p .challenge) three (p .challenge-value) in
-        rw (three, ec, ech, er) (honest-three (o .system) (k .good) (St.secretOf o) (p .lent) (held (o .key)) (k .key-is) (k .secret-is) (p .lends) m (p .challenge) few)
+        rw (three, ec, ech, er) (honest-three (o .system) (k .good) (St.secretOf o) (p .lent) (asVector (o .key)) (k .key-is) (k .secret-is) (p .lends) m (p .challenge) few)
 
     -- in five passes, with the α that was set and the t1 and e1 that were given
     five-accepted : (o .scheme ≡ 3 → ⊥) → (c : List ℕ) (α : ℕ) (l : List ℕ) (challenge : ℕ) → g .commitments r ≡ some c → a .alphas r ≡ some α →
         g .middles r ≡ some l → a .challenges r ≡ some challenge → St.MiddleGiven o g a r (p .lent) →
-        accepts (o .system) (o .scheme) (held (o .key)) c (α ∷ l) challenge reply ≡ true
-    unfolding St.middleOf
+        accepts (o .system) (o .scheme) (asVector (o .key)) c (α ∷ l) challenge reply ≡ true
+    unfolding St.turnOf
     five-accepted other c α l challenge given set sent-on asked (St.no-middle three) = absurd (other three)
     five-accepted other c α l challenge given set sent-on asked (St.with-middle five β eβ em) =
         let h5 = five-is (o .scheme) (k .scheme-value) other in
         let ec = same-message _ _ (sym given ∙ p .commitments-given) ∙ five-commitments (p .lent) other in
         let eα = same-message α β (sym set ∙ eβ) in
-        let el = same-message l (St.middleOf o (p .lent) β) (sym sent-on ∙ em) in
+        let el = same-message l (St.turnOf o (p .lent) β) (sym sent-on ∙ em) in
         let ech = same-message _ _ (sym asked ∙ p .challenge-given) in
         let er = reply-is ∙ five-reply (p .lent) (p .challenge) other in
         let few = five-challenges (o .scheme) (p .challenge) other (p .challenge-value) in
-        rw (h5, ec, eα, el, ech, er) (honest-five (o .system) (k .good) (St.secretOf o) (p .lent) (held (o .key)) (k .key-is) (k .secret-is) (p .lends) β (p .challenge) few)
+        rw (h5, ec, eα, el, ech, er) (honest-five (o .system) (k .good) (St.secretOf o) (p .lent) (asVector (o .key)) (k .key-is) (k .secret-is) (p .lends) β (p .challenge) few)
 
     -- by the scheme's check of the messages as they were given
     given-accepted : (c m : List ℕ) (challenge : ℕ) → g .commitments r ≡ some c → Middle o (a .alphas) (g .middles) r m → a .challenges r ≡ some challenge →
-        accepts (o .system) (o .scheme) (held (o .key)) c m challenge reply ≡ true
+        accepts (o .system) (o .scheme) (asVector (o .key)) c m challenge reply ≡ true
     given-accepted c m challenge given (none-sent three) asked = three-accepted three c [] challenge given asked
     given-accepted c m challenge given (sent other α l set sent-on) asked = five-accepted other c α l challenge given set sent-on asked (p .middle-given)
 

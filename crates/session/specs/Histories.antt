@@ -7,7 +7,7 @@ use mathlib.Core.List.{List, [], _∷_}
 use mathlib.Core.Logic.{_⊎_, _↔_}
 use mathlib.Core.Option.{Option, some, none}
 use lib.Dec.{eqb}
-use Rattle.field.specs.Vector.{held}
+use Rattle.field.specs.Vector.{asVector}
 use Rattle.exchange.specs.Messages.{accepts}
 use Rattle.session_state.specs.declared.Verdict.the-variants.{Accepted, Rejected}
 use Rattle.card_state.specs.declared.session.CardPhase.{CardPhase}
@@ -41,7 +41,7 @@ pub record JudgedByCheck (o : Opening) (h : History) (r : ℕ) : Type 0 where
   pub middle-taken : Middle o (h .asked .alphas) (h .taken .middles) r middle
   pub challenge-set : h .asked .challenges r ≡ some challenge
   pub reply-judged : h .judged r ≡ some (record { system = system; reply = reply; answer = answer })
-  pub by-check : answer ≡ accepts system (o .scheme) (held (o .key)) commitments middle challenge reply
+  pub by-check : answer ≡ accepts system (o .scheme) (asVector (o .key)) commitments middle challenge reply
 
 -- ---- the count
 

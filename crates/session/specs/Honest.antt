@@ -5,7 +5,7 @@ use mathlib.Core.Bool.{true}
 use mathlib.Core.List.{List, [], _∷_}
 use mathlib.Core.Option.{some}
 use lib.ListN.{length, take}
-use Rattle.field.specs.Vector.{held}
+use Rattle.field.specs.Vector.{asVector}
 use Rattle.system.specs.System.{qOf, nOf, mOf}
 use Rattle.scheme.specs.Scheme.{challenges, commitmentsLength, vectorsLength, replyLength}
 use Rattle.record_form.specs.Record.{Elements}
@@ -70,7 +70,7 @@ pub record RoundAccepted (o : Opening) (h : History) (reply : List ℕ) : Type 0
   pub middle-given : Middle o (h .asked .alphas) (h .given .middles) (h .carrierRound) middle
   pub challenge-given : h .asked .challenges (h .carrierRound) ≡ some challenge
   pub reply-given : h .given .replies (h .carrierRound) ≡ some reply
-  pub check : accepts (o .system) (o .scheme) (held (o .key)) commitments middle challenge reply ≡ true
+  pub check : accepts (o .system) (o .scheme) (asVector (o .key)) commitments middle challenge reply ≡ true
 
 -- "each taking of a reply that isn't refused answers accept, its round being accepted by the scheme's check"
 unfoldable pub Accepts : Opening → World → Call → Type 0

@@ -9,7 +9,7 @@ use mathlib.Core.List.{List, [], _∷_, _++_}
 use lib.Dec.{eqb}
 use lib.ListN.{length, take}
 use Rattle.slices.specs.Slices.{zeros}
-use Rattle.field.specs.Vector.{held}
+use Rattle.field.specs.Vector.{asVector}
 use Rattle.system.specs.System.{qOf, nOf, mOf, WellFormedSystem, F}
 use Rattle.scheme.specs.Scheme.{challenges, commitmentsLength, replyLength}
 use Rattle.record_form.specs.Record.{Elements}
@@ -33,7 +33,7 @@ pub record Openable (o : Opening) : Type 0 where
   pub for-carrier : CarrierOpenable o
   pub secret-length : length (o .secret) ≡ nOf (o .system)
   pub secret-elements : Elements (qOf (o .system)) (o .secret)
-  pub key-of-secret : F (o .system) (held (o .secret)) ≡ held (o .key)
+  pub key-of-secret : F (o .system) (asVector (o .secret)) ≡ asVector (o .key)
 
 -- what is drawn for a round: what is lent to the card, and the carrier's α and challenge
 pub record Draw : Type 0 where

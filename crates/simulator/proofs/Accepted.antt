@@ -5,7 +5,7 @@ use mathlib.Core.Bool.{true}
 use mathlib.Core.List.{List}
 use native.Mathlib.Omega.{arith}
 use lib.ListN.{length, drop}
-use Rattle.field.specs.Vector.{held, slotV}
+use Rattle.field.specs.Vector.{asVector, slotV}
 use Rattle.system.specs.System.{nOf, mOf, opsOf}
 use Rattle.system.proofs.SystemLayout.{accepted}
 use Rattle.protocol.specs.Rounds.{IsX}
@@ -21,13 +21,13 @@ use Rattle.simulator.specs.Simulator.{simulateRefusal, lentBehind, vecto
 use Rattle.simulator.proofs.NotRefused.{Taken, taken}
 
 -- the commitments have their length whatever is lent
-pub simulated-commitments-long : (b v : List ℕ) (guess : ℕ) (lent : List ℕ) → length (simulatedCommitments b v guess lent) ≡ 96
+pub simulated-commitments-long : (b v : List ℕ) (unanswered : ℕ) (lent : List ℕ) → length (simulatedCommitments b v unanswered lent) ≡ 96
 unfolding simulatedCommitments
-simulated-commitments-long b v guess lent = length-three-commitments _ (are-three _ _ _ _)
+simulated-commitments-long b v unanswered lent = length-three-commitments _ (are-three _ _ _ _)
 
-module _ (b v : List ℕ) (guess challenge : ℕ) (lent : List ℕ) (commitments reply : ℕ) (none : simulateRefusal b v guess challenge lent commitments reply ≡ 0) where
-  k : Taken b v guess challenge lent commitments reply
-  k = taken b v guess challenge lent commitments reply none
+module _ (b v : List ℕ) (unanswered challenge : ℕ) (lent : List ℕ) (commitments reply : ℕ) (none : simulateRefusal b v unanswered challenge lent commitments reply ≡ 0) where
+  k : Taken b v unanswered challenge lent commitments reply
+  k = taken b v unanswered challenge lent commitments reply none
 
   -- ---- what is lent: s', then as to a card
 
@@ -39,24 +39,24 @@ module _ (b v : List ℕ) (guess challenge : ℕ) (lent : List ℕ) (commitments
 
   -- ---- what is written
 
-  reply-is : IsReplyThree (opsOf b) (nOf b) (mOf b) (replyThree (vectorsIn b guess v lent) (lentBehind (nOf b) (mOf b) lent .rhos) challenge)
+  reply-is : IsReplyThree (opsOf b) (nOf b) (mOf b) (replyThree (vectorsIn b unanswered v lent) (lentBehind (nOf b) (mOf b) lent .rhos) challenge)
   unfolding vectorsIn vectorsFrom lentBehind lentIn
   reply-is =
       replied-is b _ (lentBehind (nOf b) (mOf b) lent .rhos)
-      (elements-simulated b (k .good) guess (held v) (slotV (nOf b) 0 lent) _ _ _ (behind-is .r0-is) (behind-is .t0-is) (behind-is .e0-is))
+      (elements-simulated b (k .good) unanswered (asVector v) (slotV (nOf b) 0 lent) _ _ _ (behind-is .r0-is) (behind-is .t0-is) (behind-is .e0-is))
       (length-bytes _ (drop (nOf b) lent)) (length-bytes _ (drop (nOf b) lent)) (length-bytes _ (drop (nOf b) lent)) challenge
 
-  pub simulated-reply-long : length (simulatedReply b v guess challenge lent) ≡ nOf b + nOf b + mOf b + 64
+  pub simulated-reply-long : length (simulatedReply b v unanswered challenge lent) ≡ nOf b + nOf b + mOf b + 64
   unfolding simulatedReply
   simulated-reply-long = let a = accepted b (k .good) in reply-three-length (opsOf b) (nOf b) (mOf b) _ (a .n-high) (a .m-high) reply-is
 
   -- "A reply to Ch ≠ Ch* is accepted": α, t1 and e1 are of five passes alone, so `middle` is any list
   pub simulated-accepted : (middle : List ℕ) →
-      accepts b 3 (held v) (simulatedCommitments b v guess lent) middle challenge (simulatedReply b v guess challenge lent) ≡ true
+      accepts b 3 (asVector v) (simulatedCommitments b v unanswered lent) middle challenge (simulatedReply b v unanswered challenge lent) ≡ true
   unfolding accepts simulatedCommitments simulatedReply vectorsIn vectorsFrom lentBehind
   simulated-accepted middle =
       let a = accepted b (k .good) in
-      ap₂ (λ (c : Commitments) (r : ReplyThree). acceptsThree b (held v) c challenge r) (three-commitments-back _ (are-three _ _ _ _))
+      ap₂ (λ (c : Commitments) (r : ReplyThree). acceptsThree b (asVector v) c challenge r) (three-commitments-back _ (are-three _ _ _ _))
       (reply-three-back (opsOf b) (nOf b) (mOf b) _ (a .n-high) (a .m-high) reply-is) ∙
-      accepted-simulated b (held v) (lentBehind (nOf b) (mOf b) lent .rhos) (k .good) guess (k .guess-value) _ _ _ _
+      accepted-simulated b (asVector v) (lentBehind (nOf b) (mOf b) lent .rhos) (k .good) unanswered (k .unanswered-value) _ _ _ _
       (held-is b (k .good) (mOf b) v (k .key-length) (k .key-elements)) s-is (behind-is .r0-is) (behind-is .t0-is) (behind-is .e0-is) challenge (k .challenge-value) (k .other)

@@ -90,8 +90,8 @@ module _ (q n m : ℕ) (lent : List ℕ) (long : length lent ≡ n + n + n + m +
 
 -- ---- the call
 
-module _ (b v : List ℕ) (guess challenge : ℕ) (lent : List ℕ) (commitments reply : ℕ) where
-  pub simulate-not-refused : Simulable b v guess challenge lent commitments reply → simulateRefusal b v guess challenge lent commitments reply ≡ 0
+module _ (b v : List ℕ) (unanswered challenge : ℕ) (lent : List ℕ) (commitments reply : ℕ) where
+  pub simulate-not-refused : Simulable b v unanswered challenge lent commitments reply → simulateRefusal b v unanswered challenge lent commitments reply ≡ 0
   unfolding simulateRefusal
   simulate-not-refused k =
       let w = k .system in
@@ -106,13 +106,13 @@ module _ (b v : List ℕ) (guess challenge : ℕ) (lent : List ℕ) (commitments
       (both-zero _ _ (unless-holds _ 2 (eq-eqb commitments _ (omega (arith, k .commitments-length)))) (unless-holds _ 2 (eq-eqb reply _ (omega (arith, k .reply-length))))))
       (both-zero _ _
       (both-zero _ _ (unless-holds _ 3 (at-all-below (qOf b) v (rw q (k .key .1)))) (unless-holds _ 3 (rw (q, n, m) (pieces-below _ _ _ _ (k .pieces)))))
-      (both-zero _ _ (unless-holds _ 4 (le-leb guess 2 (k .guess-value)))
-      (both-zero _ _ (unless-holds _ 4 (le-leb challenge 2 (k .challenge-value))) (unless-holds _ 4 (ap not (ne-eqb guess challenge (λ e. k .other (sym e)))))))))
+      (both-zero _ _ (unless-holds _ 4 (le-leb unanswered 2 (k .unanswered-value)))
+      (both-zero _ _ (unless-holds _ 4 (le-leb challenge 2 (k .challenge-value))) (unless-holds _ 4 (ap not (ne-eqb unanswered challenge (λ e. k .other (sym e)))))))))
 
-  pub simulable : simulateRefusal b v guess challenge lent commitments reply ≡ 0 → Simulable b v guess challenge lent commitments reply
+  pub simulable : simulateRefusal b v unanswered challenge lent commitments reply ≡ 0 → Simulable b v unanswered challenge lent commitments reply
   unfolding simulateRefusal
   simulable none =
-      let k = taken b v guess challenge lent commitments reply none in
+      let k = taken b v unanswered challenge lent commitments reply none in
       let w = well-formed b (k .good) in
       let lengths = first-zero _ _ (later-zero _ _ none) in
       let long = equal-holds (length lent) (nOf b + nOf b + nOf b + mOf b + 96) 2 tt (later-zero _ _ (first-zero _ _ lengths)) in
@@ -122,7 +122,7 @@ module _ (b v : List ℕ) (guess challenge : ℕ) (lent : List ℕ) (commitments
         pieces = rw (q-is b w, n-is b w, m-is b w) at (lent-pieces (qOf b) (nOf b) (mOf b) lent long (k .lent-elements));
         commitments-length = k .commitments-room;
         reply-length = omega (arith, k .reply-room, n-is b w, m-is b w);
-        guess-value = k .guess-value;
+        unanswered-value = k .unanswered-value;
         challenge-value = k .challenge-value;
         other = k .other;
       }

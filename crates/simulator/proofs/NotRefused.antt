@@ -11,21 +11,21 @@ use Rattle.field.specs.Vector.{allBelow}
 use Rattle.system.specs.System.{qOf, nOf, mOf, systemRefusal}
 use Rattle.simulator.specs.Simulator.{simulateRefusal}
 
-pub record Taken (b v : List ℕ) (guess challenge : ℕ) (lent : List ℕ) (commitments reply : ℕ) : Type 0 where
+pub record Taken (b v : List ℕ) (unanswered challenge : ℕ) (lent : List ℕ) (commitments reply : ℕ) : Type 0 where
   pub good : systemRefusal b ≡ 0
   pub key-length : length v ≡ mOf b
   pub commitments-room : commitments ≡ 96
   pub reply-room : reply ≡ nOf b + nOf b + mOf b + 64
   pub key-elements : allBelow (qOf b) v ≡ true
   pub lent-elements : allBelow (qOf b) (take (nOf b + nOf b + nOf b + mOf b) lent) ≡ true
-  pub guess-value : guess ≤ 2
+  pub unanswered-value : unanswered ≤ 2
   pub challenge-value : challenge ≤ 2
-  pub other : challenge ≡ guess → ⊥
+  pub other : challenge ≡ unanswered → ⊥
 
-pub taken : (b v : List ℕ) (guess challenge : ℕ) (lent : List ℕ) (commitments reply : ℕ) → simulateRefusal b v guess challenge lent commitments reply ≡ 0 →
-    Taken b v guess challenge lent commitments reply
+pub taken : (b v : List ℕ) (unanswered challenge : ℕ) (lent : List ℕ) (commitments reply : ℕ) → simulateRefusal b v unanswered challenge lent commitments reply ≡ 0 →
+    Taken b v unanswered challenge lent commitments reply
 unfolding simulateRefusal
-taken b v guess challenge lent commitments reply none =
+taken b v unanswered challenge lent commitments reply none =
     let n = nOf b in
     let m = mOf b in
     let after-system = later-zero _ _ none in
@@ -33,7 +33,7 @@ taken b v guess challenge lent commitments reply none =
     let after-lengths = later-zero _ _ after-system in
     let elements = first-zero _ _ after-lengths in
     let challenges = later-zero _ _ after-lengths in
-    let after-guess = later-zero _ _ challenges in
+    let after-unanswered = later-zero _ _ challenges in
     record {
       good = first-zero _ _ none;
       key-length = equal-holds (length v) m 2 tt (first-zero _ _ (first-zero _ _ lengths));
@@ -41,7 +41,7 @@ taken b v guess challenge lent commitments reply none =
       reply-room = equal-holds reply (n + n + m + 64) 2 tt (later-zero _ _ (later-zero _ _ lengths));
       key-elements = test-holds (allBelow (qOf b) v) 3 tt (first-zero _ _ elements);
       lent-elements = test-holds (allBelow (qOf b) (take (n + n + n + m) lent)) 3 tt (later-zero _ _ elements);
-      guess-value = leb-true guess 2 (test-holds (leb guess 2) 4 tt (first-zero _ _ challenges));
-      challenge-value = leb-true challenge 2 (test-holds (leb challenge 2) 4 tt (first-zero _ _ after-guess));
-      other = λ e. eqb-false guess challenge (not-true (eqb guess challenge) (test-holds (not (eqb guess challenge)) 4 tt (later-zero _ _ after-guess))) (sym e);
+      unanswered-value = leb-true unanswered 2 (test-holds (leb unanswered 2) 4 tt (first-zero _ _ challenges));
+      challenge-value = leb-true challenge 2 (test-holds (leb challenge 2) 4 tt (first-zero _ _ after-unanswered));
+      other = λ e. eqb-false unanswered challenge (not-true (eqb unanswered challenge) (test-holds (not (eqb unanswered challenge)) 4 tt (later-zero _ _ after-unanswered))) (sym e);
     }

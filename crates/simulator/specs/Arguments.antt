@@ -1,5 +1,5 @@
 -- Document 01, "Simulator": what it asks of the arguments of a call. Nothing here is taken from the refusal: proofs/Arguments.antt shows that a call is not
--- refused exactly where its arguments are so. `guess` is Ch*.
+-- refused exactly where its arguments are so. `unanswered` is Ch*.
 use Prim.Native.Nat.{ℕ, _+_, _*_, _≤_}
 use mathlib.Core.Path.{_≡_}
 use mathlib.Core.List.{List, _++_}
@@ -30,12 +30,12 @@ pub record LentPieces (q n m : ℕ) (lent : List ℕ) : Type 0 where
   pub ρ2-length : length ρ2 ≡ 32
 
 -- "from the system, v, challenges Ch* and Ch and lent" pieces; the outputs "with an exact length": three digests, and "A reply has 2n + m + 64 bytes."
-pub record Simulable (b v : List ℕ) (guess challenge : ℕ) (lent : List ℕ) (commitments reply : ℕ) : Type 0 where
+pub record Simulable (b v : List ℕ) (unanswered challenge : ℕ) (lent : List ℕ) (commitments reply : ℕ) : Type 0 where
   pub system : WellFormedSystem b
   pub key : VectorBytes (system .q) (system .m) v
   pub pieces : LentPieces (system .q) (system .n) (system .m) lent
   pub commitments-length : commitments ≡ 3 * 32
   pub reply-length : reply ≡ 2 * system .n + system .m + 64
-  pub guess-value : guess ≤ 2
+  pub unanswered-value : unanswered ≤ 2
   pub challenge-value : challenge ≤ 2
-  pub other : challenge ≡ guess → ⊥
+  pub other : challenge ≡ unanswered → ⊥

@@ -2,7 +2,7 @@
 //
 // It takes any bytes and answers 0, or the number of the refusal, and then both outputs are what they were: the system's
 // own; 2 for a v, lent slice or output of another length; 3 for an element of v or of the lent vectors; 4 for a challenge
-// outside 0 to 2, or for the one that was guessed.
+// outside 0 to 2, or for Ch* itself.
 use exchange::Lent;
 use exchange::read_lent;
 use exchange::write_commitments;
@@ -30,13 +30,13 @@ ghost use Rattle.simulator.specs.Simulator.{simulateRefusal, lentBehind,
 fn simulate_refusal<'a>(
     system: &'a [u8],
     v: &'a [u8],
-    guess: u8,
+    unanswered: u8,
     challenge: u8,
     lent: &'a [u8],
     commitments_len: usize,
     reply_len: usize,
 ) -> u8
-    ensures { λ r. ⌜ r ≡ simulateRefusal (now (system .entry)) (now (v .entry)) guess challenge (now (lent .entry)) «commitments_len» «reply_len» ⌝ }
+    ensures { λ r. ⌜ r ≡ simulateRefusal (now (system .entry)) (now (v .entry)) unanswered challenge (now (lent .entry)) «commitments_len» «reply_len» ⌝ }
 {
     let q = byte_at(system, 0);
     let n = byte_at(system, 1) as usize;
@@ -54,8 +54,8 @@ fn simulate_refusal<'a>(
         unless(all_below(q, part(lent, 0, n + n + n + m)), 3),
     );
     let challenges = first(
-        unless(guess <= 2, 4),
-        first(unless(challenge <= 2, 4), unless(guess != challenge, 4)),
+        unless(unanswered <= 2, 4),
+        first(unless(challenge <= 2, 4), unless(unanswered != challenge, 4)),
     );
     first(
         check(system),
@@ -71,35 +71,35 @@ fn lent_behind(lent: &[u8], n: u8, m: u8) -> Lent
 }
 
 // The simulator's vectors, from s' and what is lent behind it.
-fn lent_vectors<'a>(system: &'a [u8], guess: u8, v: &'a [u8], lent: &'a [u8], l: Lent) -> Vectors
+fn lent_vectors<'a>(system: &'a [u8], unanswered: u8, v: &'a [u8], lent: &'a [u8], l: Lent) -> Vectors
     requires { ⌜ systemRefusal (now system) ≡ 0 ⌝ }
-    ensures { λ r. ⌜ vectorsOf r ≡ vectorsFrom (now (system .entry)) guess (now (v .entry)) (now (lent .entry)) l ⌝ }
+    ensures { λ r. ⌜ vectorsOf r ≡ vectorsFrom (now (system .entry)) unanswered (now (v .entry)) (now (lent .entry)) l ⌝ }
 {
     let s = slot(lent, 0, byte_at(system, 1));
     let r0 = l.r0;
     let t0 = l.t0;
     let e0 = l.e0;
-    simulated(system, guess, from_slice(v), s, r0, t0, e0)
+    simulated(system, unanswered, from_slice(v), s, r0, t0, e0)
 }
 
-// Writes the three commitments and the reply to `challenge`; `guess` is Ch*, the challenge to which there is no reply.
+// Writes the three commitments and the reply to `challenge`; `unanswered` is Ch*, the challenge to which there is no reply.
 pub fn simulate<'a>(
     system: &'a [u8],
     v: &'a [u8],
-    guess: u8,
+    unanswered: u8,
     challenge: u8,
     lent: &'a [u8],
     commitments: &mut [u8],
     reply: &mut [u8],
 ) -> u8
-    ensures { λ r. ⌜ (r ≡ simulateRefusal (now (system .entry)) (now (v .entry)) guess challenge (now (lent .entry)) (length (now (commitments .entry))) (length (now (reply .entry))))
-        × (now (commitments .exit) ≡ kept r (now (commitments .entry)) (simulatedCommitments (now (system .entry)) (now (v .entry)) guess (now (lent .entry))))
-        × (now (reply .exit) ≡ kept r (now (reply .entry)) (simulatedReply (now (system .entry)) (now (v .entry)) guess challenge (now (lent .entry)))) ⌝ }
+    ensures { λ r. ⌜ (r ≡ simulateRefusal (now (system .entry)) (now (v .entry)) unanswered challenge (now (lent .entry)) (length (now (commitments .entry))) (length (now (reply .entry))))
+        × (now (commitments .exit) ≡ kept r (now (commitments .entry)) (simulatedCommitments (now (system .entry)) (now (v .entry)) unanswered (now (lent .entry))))
+        × (now (reply .exit) ≡ kept r (now (reply .entry)) (simulatedReply (now (system .entry)) (now (v .entry)) unanswered challenge (now (lent .entry)))) ⌝ }
 {
     let refused = simulate_refusal(
         system,
         v,
-        guess,
+        unanswered,
         challenge,
         lent,
         commitments.len(),
@@ -112,7 +112,7 @@ pub fn simulate<'a>(
     let m = byte_at(system, 2);
     let l = lent_behind(lent, n, m);
     let rhos = l.rhos;
-    let w = lent_vectors(system, guess, v, lent, l);
+    let w = lent_vectors(system, unanswered, v, lent, l);
     write_commitments(commitments_three(n, m, w, rhos), commitments);
     write_reply_three(reply_three(w, rhos, challenge), n, m, reply);
     0

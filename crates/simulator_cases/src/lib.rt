@@ -20,8 +20,8 @@ pub fn simulator_case(file: &[u8], at: usize, buffer: &mut [u8]) -> Outcome {
 // The case whose pieces behind the system start at `at`.
 fn simulate_case<'a>(file: &'a [u8], head: Head, at: usize, system: &'a [u8]) -> Outcome {
     let v = cases::load_small(file, at);
-    let guess = cases::load_byte(file, v.next);
-    let challenge = cases::load_byte(file, guess.next);
+    let unanswered = cases::load_byte(file, v.next);
+    let challenge = cases::load_byte(file, unanswered.next);
     let lent = cases::load_small(file, challenge.next);
     let commitments = cases::load_small(file, lent.next);
     let reply = cases::load_small(file, commitments.next);
@@ -29,7 +29,7 @@ fn simulate_case<'a>(file: &'a [u8], head: Head, at: usize, system: &'a [u8]) ->
         head,
         system,
         v,
-        guess.value,
+        unanswered.value,
         challenge.value,
         lent,
         commitments,
@@ -42,7 +42,7 @@ fn simulated(
     head: Head,
     system: &[u8],
     v: Small,
-    guess: u8,
+    unanswered: u8,
     challenge: u8,
     lent: Small,
     commitments: Small,
@@ -55,7 +55,7 @@ fn simulated(
     let number = simulator::simulate(
         system,
         part(&v_bytes, 0, v.length),
-        guess,
+        unanswered,
         challenge,
         part(&lent_bytes, 0, lent.length),
         cases::front(&mut first, commitments.length),

@@ -6,7 +6,7 @@ use mathlib.Core.Logic.{_⊎_}
 use Rattle.slices.specs.Slices.{tabulate}
 use Rattle.refusal.specs.Refusal.{unless, _orElse_}
 use Rattle.field.specs.Ops.{isField, modulus, remainders, ops}
-use Rattle.field.specs.Vector.{vector, held, sum, allBelow}
+use Rattle.field.specs.Vector.{vector, asVector, sum, allBelow}
 use Rattle.system.specs.Polynomial.{pairs, polynomial}
 use Rattle.system.specs.System.{width, triangle, quadratic, linear, F, areSizes, isSize, systemLength, systemRefusal}
 use Rattle.system.proofs.SystemLayout.{well-formed, all-below-at}
@@ -26,7 +26,7 @@ not-refused : systemRefusal key ≡ 0
 unfolding systemRefusal areSizes isSize systemLength unless _orElse_ isField width triangle allBelow
 not-refused = refl
 
-key-of-secret : F key (held s) ≡ held v
+key-of-secret : F key (asVector s) ≡ asVector v
 unfolding F quadratic linear width triangle polynomial pairs sum vector tabulate ops remainders modulus isField
 key-of-secret = refl
 

@@ -15,7 +15,7 @@ use Rattle.refusal.specs.Refusal.{unless, _orElse_}
 use Rattle.refusal.proofs.Refusals.{first-zero, later-zero, test-holds, unless-most, orElse-most}
 use Rattle.field.specs.Ops.{isField}
 use Rattle.field.specs.Vector.{allBelow}
-use Rattle.system.specs.System.{qOf, nOf, mOf, width, systemLength, isSize, areSizes, hasSizes, systemRefusal, lentRefusal, WellFormedSystem, triangle}
+use Rattle.system.specs.System.{qOf, nOf, mOf, width, systemLength, isSize, areSizes, hasSizes, systemRefusal, systemAgainst, WellFormedSystem, triangle}
 
 -- ---- widths
 
@@ -196,6 +196,6 @@ system-most b most h =
     let two : T (leb 2 most) = le→leb 2 most (omega arith) in
     orElse-most _ _ most (unless-most _ 2 most two) (orElse-most _ _ most (unless-most _ 1 most one) (orElse-most _ _ most (unless-most _ 2 most two) (unless-most _ 3 most h)))
 
-pub lent-most : (b : List ℕ) (q n m : ℕ) → lentRefusal b q n m ≤ 9
-unfolding lentRefusal
+pub lent-most : (b : List ℕ) (q n m : ℕ) → systemAgainst b q n m ≤ 9
+unfolding systemAgainst
 lent-most b q n m = orElse-most _ _ 9 (system-most b 9 tt) (unless-most _ 7 9 tt)

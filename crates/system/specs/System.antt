@@ -55,8 +55,8 @@ unfoldable pub hasSizes : List ℕ → ℕ → ℕ → ℕ → Bool
 hasSizes b q n m = eqb (qOf b) q && (eqb (nOf b) n && eqb (mOf b) m)
 
 -- "then the system (2 if under 3 bytes, then 1, 2, 3), then 7 against a session"
-unfoldable pub lentRefusal : List ℕ → ℕ → ℕ → ℕ → ℕ
-lentRefusal b q n m = systemRefusal b orElse unless (hasSizes b q n m) 7
+unfoldable pub systemAgainst : List ℕ → ℕ → ℕ → ℕ → ℕ
+systemAgainst b q n m = systemRefusal b orElse unless (hasSizes b q n m) 7
 
 -- "A record or a system is well-formed when it is laid out as here, every field, element and challenge among its values."
 pub record WellFormedSystem (b : List ℕ) : Type 0 where

@@ -8,7 +8,7 @@ ghost use mathlib.Core.Path.{_≡_};
 ghost use Prim.Native.Nat.{_+_, _≤_};
 ghost use lib.ListN.{length, take, drop};
 ghost use Rattle.field.specs.Vector.{allBelow};
-ghost use Rattle.system.specs.System.{qOf, width as widthOf, systemLength, isSize, areSizes, hasSizes, systemRefusal, lentRefusal};
+ghost use Rattle.system.specs.System.{qOf, width as widthOf, systemLength, isSize, areSizes, hasSizes, systemRefusal, systemAgainst};
 
 // The bytes of one polynomial in n unknowns.
 pub fn width(n: u8) -> usize
@@ -85,8 +85,8 @@ pub fn has_sizes(system: &[u8], q: u8, n: u8, m: u8) -> bool
 }
 
 // Refuses a system that is lent to a session of this q, n and m.
-pub fn lent_refusal(system: &[u8], q: u8, n: u8, m: u8) -> u8
-    ensures { λ r. ⌜ r ≡ lentRefusal (now (system .entry)) q n m ⌝ }
+pub fn check_against(system: &[u8], q: u8, n: u8, m: u8) -> u8
+    ensures { λ r. ⌜ r ≡ systemAgainst (now (system .entry)) q n m ⌝ }
 {
     first(check(system), unless(has_sizes(system, q, n, m), 7))
 }

@@ -3,9 +3,9 @@ use Prim.Native.Nat.{ℕ, zero, suc, _+_}
 use mathlib.Core.Bool.{Bool, cond}
 use mathlib.Core.List.{List}
 use Rattle.refusal.specs.Refusal.{unless, _orElse_}
-use Rattle.field.specs.Vector.{held}
+use Rattle.field.specs.Vector.{asVector}
 use Rattle.system.specs.System.{hasSizes, systemRefusal}
-use Rattle.record_form.specs.Record.{headerIn, fieldsIn, commitmentsOf, exchangeOf, middleOf, challengeOf, replyOf}
+use Rattle.record_form.specs.Record.{headerIn, fieldsIn, commitmentsOf, exchangeOf, turnOf, challengeOf, replyOf}
 use Rattle.record_form.specs.Rounds.{Round}
 use Rattle.record.specs.Reader.{recordRefusal}
 use Rattle.exchange.specs.Messages.{accepts}
@@ -20,7 +20,7 @@ judgeRefusal system b = systemRefusal system orElse recordRefusal b orElse fitRe
 
 -- "Key: v."
 unfoldable pub keyVector : List ℕ → List ℕ
-keyVector b = held (fieldsIn b .key)
+keyVector b = asVector (fieldsIn b .key)
 
 -- "Commitments: 32 bytes each, 3 or 2 a round."
 unfoldable pub roundCommitments : List ℕ → ℕ → List ℕ
@@ -31,8 +31,8 @@ unfoldable pub roundExchange : List ℕ → ℕ → List ℕ
 roundExchange b r = exchangeOf (headerIn b) (fieldsIn b .exchanges) r
 
 -- its parts
-abbrev pub roundMiddle : List ℕ → ℕ → List ℕ
-roundMiddle b r = middleOf (headerIn b) (roundExchange b r)
+abbrev pub roundTurn : List ℕ → ℕ → List ℕ
+roundTurn b r = turnOf (headerIn b) (roundExchange b r)
 
 unfoldable pub roundChallenge : List ℕ → ℕ → ℕ
 roundChallenge b r = challengeOf (headerIn b) (roundExchange b r)
@@ -42,12 +42,12 @@ roundReply b r = replyOf (headerIn b) (roundExchange b r)
 
 -- the round, by its messages
 unfoldable pub roundIn : List ℕ → ℕ → Round
-roundIn b r = record { commitments = roundCommitments b r; middle = roundMiddle b r; challenge = roundChallenge b r; reply = roundReply b r }
+roundIn b r = record { commitments = roundCommitments b r; middle = roundTurn b r; challenge = roundChallenge b r; reply = roundReply b r }
 
 -- the round is accepted by the check of its scheme, for the system and the record's key
 unfoldable pub acceptedRound : List ℕ → List ℕ → ℕ → Bool
 acceptedRound system b r =
-    accepts system (headerIn b .scheme) (keyVector b) (roundCommitments b r) (roundMiddle b r) (roundChallenge b r) (roundReply b r)
+    accepts system (headerIn b .scheme) (keyVector b) (roundCommitments b r) (roundTurn b r) (roundChallenge b r) (roundReply b r)
 
 -- how many of the first n rounds are accepted
 unfoldable pub acceptedCount : List ℕ → List ℕ → ℕ → ℕ

@@ -14,7 +14,7 @@ use refusal::first;
 use refusal::unless;
 use scheme::commitments_length;
 use scheme::exchange_length;
-use scheme::middle_length;
+use scheme::turn_length;
 use scheme::of_rounds;
 use scheme::reply_length;
 use slices::byte_at;
@@ -23,7 +23,7 @@ use system::check;
 use system::has_sizes;
 ghost use mathlib.Core.Path.{_≡_};
 ghost use Rattle.system.specs.System.{systemRefusal};
-ghost use Rattle.transcript.specs.Transcript.{fitRefusal, judgeRefusal, keyVector, roundCommitments, roundExchange, roundMiddle, roundChallenge, roundReply, acceptedRound};
+ghost use Rattle.transcript.specs.Transcript.{fitRefusal, judgeRefusal, keyVector, roundCommitments, roundExchange, roundTurn, roundChallenge, roundReply, acceptedRound};
 
 // 7 where the system has not the q, n and m of a record.
 pub fn fit_refusal<'a>(system: &'a [u8], bytes: &'a [u8]) -> u8
@@ -77,14 +77,14 @@ pub fn round_exchange(bytes: &[u8], r: u8) -> &[u8]
 }
 
 // What of an exchange stands before the challenge.
-pub fn round_middle(bytes: &[u8], r: u8) -> &[u8]
-    ensures { λ s. ⌜ now s ≡ roundMiddle (now (bytes .entry)) r ⌝ }
+pub fn round_turn(bytes: &[u8], r: u8) -> &[u8]
+    ensures { λ s. ⌜ now s ≡ roundTurn (now (bytes .entry)) r ⌝ }
 {
     let h = header_of(bytes);
     part(
         round_exchange(bytes, r),
         0,
-        middle_length(h.scheme, h.n, h.m),
+        turn_length(h.scheme, h.n, h.m),
     )
 }
 
@@ -93,7 +93,7 @@ pub fn round_challenge(bytes: &[u8], r: u8) -> u8
     ensures { λ k. ⌜ k ≡ roundChallenge (now (bytes .entry)) r ⌝ }
 {
     let h = header_of(bytes);
-    byte_at(round_exchange(bytes, r), middle_length(h.scheme, h.n, h.m))
+    byte_at(round_exchange(bytes, r), turn_length(h.scheme, h.n, h.m))
 }
 
 // The reply of a round.
@@ -103,7 +103,7 @@ pub fn round_reply(bytes: &[u8], r: u8) -> &[u8]
     let h = header_of(bytes);
     part(
         round_exchange(bytes, r),
-        middle_length(h.scheme, h.n, h.m) + 1,
+        turn_length(h.scheme, h.n, h.m) + 1,
         reply_length(h.scheme, h.n, h.m),
     )
 }
@@ -118,7 +118,7 @@ pub fn accepts_round<'a>(system: &'a [u8], bytes: &'a [u8], r: u8) -> bool
         header_of(bytes).scheme,
         key_vector(bytes),
         round_commitments(bytes, r),
-        round_middle(bytes, r),
+        round_turn(bytes, r),
         round_challenge(bytes, r),
         round_reply(bytes, r),
     )

@@ -11,15 +11,15 @@ use borrow.Author.Needs.{needs}
 use Rattle.commitment.proofs.append.Statement.{statement}
 use Rattle.commitment.proofs.append.Tie as tie
 
-vector-length : (c : tie.After-held) → length (c .before .before .args .t2) ≡ 96
+vector-length : (c : tie.After-clamped) → length (c .before .before .args .t2) ≡ 96
 vector-length c = search needs
 
-part-length : (c : tie.After-held) → length (take (c .held .result) (c .before .before .args .t2)) ≡ c .held .result
+part-length : (c : tie.After-clamped) → length (take (c .clamped .result) (c .before .before .args .t2)) ≡ c .clamped .result
 part-length c = length-take-le _ _ (omega (arith, vector-length c))
 
 -- as many elements as are asked for, of the 96 that there are
-part-is : (c : tie.After-held) → take (c .held .result) (c .before .before .args .t2) ≡ take (c .before .before .args .n) (c .before .before .args .t2)
-part-is c = rw (c .held .ensures) (take-vector (c .before .before .args .n) (c .before .before .args .t2) (vector-length c))
+part-is : (c : tie.After-clamped) → take (c .clamped .result) (c .before .before .args .t2) ≡ take (c .before .before .args .n) (c .before .before .args .t2)
+part-is c = rw (c .clamped .ensures) (take-vector (c .before .before .args .n) (c .before .before .args .t2) (vector-length c))
 
 pub append-spec : {M : Type 1} → statement M
 append-spec =
@@ -36,7 +36,7 @@ append-spec =
     record {
       holds = λ l e.
           same-text _ (l ++ take (args .n) (args .t2)) _
-          (held-put l (take (at .held .result) (args .t2)) (args .t .bytes) _ (args .t .len) (text-bytes _ l e) (sym (text-len _ l e)) (rw (part-length at) (omega arith)) (c .put .ensures) ∙ ap (λ (s : List ℕ). held (l ++ s)) (part-is at))
+          (held-put l (take (at .clamped .result) (args .t2)) (args .t .bytes) _ (args .t .len) (text-bytes _ l e) (sym (text-len _ l e)) (rw (part-length at) (omega arith)) (c .put .ensures) ∙ ap (λ (s : List ℕ). held (l ++ s)) (part-is at))
           (simp (length-append, ← part-is at, part-length at, ← text-len _ l e));
       longer = omega arith;
     }))

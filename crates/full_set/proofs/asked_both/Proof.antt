@@ -16,6 +16,6 @@ asked-both-spec =
     (λ c κs. search needs)
     (λ c κs. search needs)
     (λ c κs. search needs)
-    (λ c. simp (c .equal .ensures, c .before .round-middle2 .ensures, c .before .before .round-middle .ensures, sym (c .before .before .before .before .round-challenge2 .ensures) ∙ c .before .before .before .if2 .taken, sym (c .before .before .before .before .before .before .round-challenge .ensures) ∙ c .before .before .before .before .before .if1 .taken))
+    (λ c. simp (c .equal .ensures, c .before .round-turn2 .ensures, c .before .before .round-turn .ensures, sym (c .before .before .before .before .round-challenge2 .ensures) ∙ c .before .before .before .if2 .taken, sym (c .before .before .before .before .before .before .round-challenge .ensures) ∙ c .before .before .before .before .before .if1 .taken))
     (λ c. simp (ne-eqb _ _ (λ e. c .if2 .left (c .before .round-challenge2 .ensures ∙ e)), sym (c .before .before .before .round-challenge .ensures) ∙ c .before .before .if1 .taken))
     (λ c. simp (ne-eqb _ _ (λ e. c .if1 .left (c .before .round-challenge .ensures ∙ e)))))

@@ -16,6 +16,6 @@ full-five-spec =
     (λ c κs. search needs)
     (λ c κs. search needs)
     (λ c κs. search needs)
-    (λ c. simp (c .byte-at2 .ensures, c .before .round-middle2 .ensures, c .before .before .byte-at .ensures, c .before .before .before .round-middle .ensures, sym (c .before .before .before .before .before .asked-both2 .ensures) ∙ c .before .before .before .before .if2 .taken, sym (c .before .before .before .before .before .before .before .asked-both .ensures) ∙ c .before .before .before .before .before .before .if1 .taken))
+    (λ c. simp (c .byte-at2 .ensures, c .before .round-turn2 .ensures, c .before .before .byte-at .ensures, c .before .before .before .round-turn .ensures, sym (c .before .before .before .before .before .asked-both2 .ensures) ∙ c .before .before .before .before .if2 .taken, sym (c .before .before .before .before .before .before .before .asked-both .ensures) ∙ c .before .before .before .before .before .before .if1 .taken))
     (λ c. simp (sym (c .before .asked-both2 .ensures) ∙ c .if2 .left, sym (c .before .before .before .asked-both .ensures) ∙ c .before .before .if1 .taken))
     (λ c. simp (sym (c .before .asked-both .ensures) ∙ c .if1 .left)))

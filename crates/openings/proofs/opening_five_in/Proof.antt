@@ -19,4 +19,4 @@ opening-five-in-spec =
     (λ c κs. search needs)
     (λ c κs. search needs)
     (λ c κs. search needs)
-    (λ c. (simp (c .opening-five .ensures .0, c .before .read-reply-five .ensures, c .before .before .round-reply .ensures, c .before .before .before .round-challenge .ensures, c .before .before .before .before .read-middle .ensures, c .before .before .before .before .before .key-vector .ensures, c .before .before .before .before .before .before .byte-at3 .ensures, c .before .before .before .before .before .before .before .round-middle .ensures, c .before .before .before .before .before .before .before .before .byte-at2 .ensures, c .before .before .before .before .before .before .before .before .before .byte-at .ensures), c .opening-five .ensures .1)))
+    (λ c. (simp (c .opening-five .ensures .0, c .before .read-reply-five .ensures, c .before .before .round-reply .ensures, c .before .before .before .round-challenge .ensures, c .before .before .before .before .read-middle .ensures, c .before .before .before .before .before .key-vector .ensures, c .before .before .before .before .before .before .byte-at3 .ensures, c .before .before .before .before .before .before .before .round-turn .ensures, c .before .before .before .before .before .before .before .before .byte-at2 .ensures, c .before .before .before .before .before .before .before .before .before .byte-at .ensures), c .opening-five .ensures .1)))

@@ -13,7 +13,7 @@ use Rattle.simulator.proofs.simulate.Tie as tie
 -- nothing is refused
 none : (c : tie.Else1) →
     let a = c .before .before .before .before .before .before .before .args in
-    simulateRefusal (a .system .now) (a .v .now) (a .guess) (a .challenge) (a .lent .now) (length (a .commitments .now)) (length (a .reply .now)) ≡ 0
+    simulateRefusal (a .system .now) (a .v .now) (a .unanswered) (a .challenge) (a .lent .now) (length (a .commitments .now)) (length (a .reply .now)) ≡ 0
 none c = sym (c .before .simulate-refusal .ensures) ∙ c .if1 .left
 
 pub simulate-spec : {M : Type 1} → statement M

@@ -14,4 +14,4 @@ round-challenge-spec =
     (λ c κs. search needs)
     (λ c κs. search needs)
     (λ c κs. search needs)
-    (λ c. simp (c .byte-at .ensures, c .before .middle-length .ensures .0, c .before .before .round-exchange .ensures, c .before .before .before .header-of .ensures)))
+    (λ c. simp (c .byte-at .ensures, c .before .turn-length .ensures .0, c .before .before .round-exchange .ensures, c .before .before .before .header-of .ensures)))

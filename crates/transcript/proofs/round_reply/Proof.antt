@@ -15,4 +15,4 @@ round-reply-spec =
     (λ c. search needs)
     (λ c κs. search needs)
     (λ c κs. search needs)
-    (λ c. simp (c .part .ensures, c .before .reply-length .ensures .0, c .before .before .middle-length .ensures .0, c .before .before .before .round-exchange .ensures, c .before .before .before .before .header-of .ensures)))
+    (λ c. simp (c .part .ensures, c .before .reply-length .ensures .0, c .before .before .turn-length .ensures .0, c .before .before .before .round-exchange .ensures, c .before .before .before .before .header-of .ensures)))

@@ -20,4 +20,4 @@ alpha-refusal-spec =
     (λ c κs. search needs)
     (λ c κs. search needs)
     (λ c κs. search needs)
-    (λ c. simp (c .first3 .ensures, c .before .first2 .ensures, c .before .before .first .ensures, c .before .before .before .unless2 .ensures, c .before .before .before .before .before .unless .ensures, c .before .before .before .before .before .before .before .before .lent-refusal .ensures, c .before .before .before .before .before .before .before .before .before .state-refusal .ensures, c .before .before .before .before .before .before .before .before .before .before .phase-number .ensures)))
+    (λ c. simp (c .first3 .ensures, c .before .first2 .ensures, c .before .before .first .ensures, c .before .before .before .unless2 .ensures, c .before .before .before .before .before .unless .ensures, c .before .before .before .before .before .before .before .before .check-against .ensures, c .before .before .before .before .before .before .before .before .before .state-refusal .ensures, c .before .before .before .before .before .before .before .before .before .before .phase-number .ensures)))

@@ -29,4 +29,4 @@ commit-refusal-spec =
     (λ c κs. search needs)
     (λ c κs. search needs)
     (λ c κs. search needs)
-    (λ c. simp (orElse-assoc, c .first4 .ensures, c .before .first3 .ensures, c .before .before .first2 .ensures, c .before .before .before .unless3 .ensures, c .before .before .before .before .all-below .ensures, c .before .before .before .before .before .part .ensures, c .before .before .before .before .before .before .first .ensures, c .before .before .before .before .before .before .before .unless2 .ensures, c .before .before .before .before .before .before .before .before .unless .ensures, c .before .before .before .before .before .before .before .before .before .lent-refusal .ensures, c .before .before .before .before .before .before .before .before .before .before .state-refusal .ensures, c .before .before .before .before .before .before .before .before .before .before .before .phase-number .ensures, c .before .before .before .before .before .before .before .before .before .before .before .before .commitments-length .ensures .0)))
+    (λ c. simp (orElse-assoc, c .first4 .ensures, c .before .first3 .ensures, c .before .before .first2 .ensures, c .before .before .before .unless3 .ensures, c .before .before .before .before .all-below .ensures, c .before .before .before .before .before .part .ensures, c .before .before .before .before .before .before .first .ensures, c .before .before .before .before .before .before .before .unless2 .ensures, c .before .before .before .before .before .before .before .before .unless .ensures, c .before .before .before .before .before .before .before .before .before .check-against .ensures, c .before .before .before .before .before .before .before .before .before .before .state-refusal .ensures, c .before .before .before .before .before .before .before .before .before .before .before .phase-number .ensures, c .before .before .before .before .before .before .before .before .before .before .before .before .commitments-length .ensures .0)))

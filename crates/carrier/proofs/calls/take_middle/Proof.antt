@@ -16,4 +16,4 @@ take-middle-spec =
     (λ c κs. search needs)
     (λ c κs. search needs)
     (λ c κs. search needs)
-    (λ c. (c .answer .ensures .0 ∙ c .before .before .before .before .before .middle-refusal .ensures, c .answer .ensures .1 ∙ ap (kept _ _) (simp (c .before .carrier-with .ensures, c .before .before .held-middle .ensures)))))
+    (λ c. (c .answer .ensures .0 ∙ c .before .before .before .before .before .middle-refusal .ensures, c .answer .ensures .1 ∙ ap (kept _ _) (simp (c .before .carrier-with .ensures, c .before .before .held-turn .ensures)))))

@@ -4,7 +4,7 @@ use mathlib.Core.Path.{_≡_, sym, ap, _∙_}
 use mathlib.Core.List.{List}
 use Rattle.refusal.specs.Refusal.{kept}
 use Rattle.refusal.proofs.Refusals.{kept-refused, first-zero, later-zero}
-use Rattle.system.specs.System.{systemRefusal, lentRefusal}
+use Rattle.system.specs.System.{systemRefusal, systemAgainst}
 use Rattle.carrier_state.specs.declared.session.Carrier.{Carrier}
 use Rattle.carrier_state.specs.Carrier.{replyRefusal, acceptsReply, judgedCarrier}
 use borrow.Author.Needs.{needs}
@@ -13,7 +13,7 @@ use Rattle.carrier.proofs.calls.take_reply.Tie as tie
 
 -- a call that is not refused has a good system
 good : (c : Carrier) (b reply : List ℕ) → replyRefusal c b reply ≡ 0 → systemRefusal b ≡ 0
-unfolding replyRefusal lentRefusal
+unfolding replyRefusal systemAgainst
 good c b reply none = first-zero _ _ (first-zero _ _ (later-zero _ _ none))
 
 pub take-reply-spec : {M : Type 1} → statement M

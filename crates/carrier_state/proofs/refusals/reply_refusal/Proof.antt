@@ -21,4 +21,4 @@ reply-refusal-spec =
     (λ c κs. search needs)
     (λ c κs. search needs)
     (λ c κs. search needs)
-    (λ c. simp (c .first3 .ensures, c .before .first2 .ensures, c .before .before .first .ensures, c .before .before .before .unless2 .ensures, c .before .before .before .before .all-below .ensures, c .before .before .before .before .before .part .ensures, c .before .before .before .before .before .before .unless .ensures, c .before .before .before .before .before .before .before .reply-length .ensures .0, c .before .before .before .before .before .before .before .before .lent-refusal .ensures, c .before .before .before .before .before .before .before .before .before .state-refusal .ensures, c .before .before .before .before .before .before .before .before .before .before .phase-number .ensures, c .before .before .before .before .before .before .before .before .before .before .before .vectors-length .ensures .0)))
+    (λ c. simp (c .first3 .ensures, c .before .first2 .ensures, c .before .before .first .ensures, c .before .before .before .unless2 .ensures, c .before .before .before .before .all-below .ensures, c .before .before .before .before .before .part .ensures, c .before .before .before .before .before .before .unless .ensures, c .before .before .before .before .before .before .before .reply-length .ensures .0, c .before .before .before .before .before .before .before .before .check-against .ensures, c .before .before .before .before .before .before .before .before .before .state-refusal .ensures, c .before .before .before .before .before .before .before .before .before .before .phase-number .ensures, c .before .before .before .before .before .before .before .before .before .before .before .vectors-length .ensures .0)))

@@ -24,7 +24,7 @@ each-spec =
     Inv-loop
     μ-loop
     (λ c κs. search needs)
-    (λ c. (c .held .ensures, omega arith, vector-start _))
+    (λ c. (c .clamped .ensures, omega arith, vector-start _))
     (λ c. omega arith)
     (λ c. omega arith)
     (λ c κs. search needs)

@@ -23,7 +23,7 @@ from-slice-spec =
     Inv-loop
     μ-loop
     (λ c κs. search needs)
-    (λ c. (c .held .ensures, omega arith, vector-start _))
+    (λ c. (c .clamped .ensures, omega arith, vector-start _))
     (λ c. omega arith)
     (λ c. omega arith)
     (λ c. omega arith)

@@ -23,7 +23,7 @@ slot-spec =
     Inv-loop
     μ-loop
     (λ c κs. search needs)
-    (λ c. (c .held .ensures, omega arith, vector-start _))
+    (λ c. (c .clamped .ensures, omega arith, vector-start _))
     (λ c κs. search needs)
     (λ c. omega arith)
     (λ c. omega arith)

@@ -1,12 +1,12 @@
 -- The callees' answers, put together. Assumes nothing.
-use Rattle.system.specs.System.{lentRefusal}
+use Rattle.system.specs.System.{systemAgainst}
 use borrow.Author.Needs.{needs}
-use Rattle.system.proofs.layout.lent_refusal.Statement.{statement}
-use Rattle.system.proofs.layout.lent_refusal.Tie as tie
+use Rattle.system.proofs.layout.check_against.Statement.{statement}
+use Rattle.system.proofs.layout.check_against.Tie as tie
 
-pub lent-refusal-spec : {M : Type 1} → statement M
-unfolding lentRefusal
-lent-refusal-spec =
+pub check-against-spec : {M : Type 1} → statement M
+unfolding systemAgainst
+check-against-spec =
     tie.close
     (tie.spec
     (λ c κs. search needs)

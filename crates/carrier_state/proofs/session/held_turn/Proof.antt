@@ -6,10 +6,10 @@ use native.Mathlib.Nat.{not-suc-le-zero}
 use native.Mathlib.Omega.{arith}
 use Rattle.slices.specs.Slices.{_!_, tabulate}
 use Rattle.slices.proofs.Tabulate.{Filled, fill-more, filled}
-use Rattle.carrier_state.specs.Carrier.{heldMiddle}
+use Rattle.carrier_state.specs.Carrier.{heldTurn}
 use borrow.Author.Needs.{needs}
-use Rattle.carrier_state.proofs.session.held_middle.Statement.{statement}
-use Rattle.carrier_state.proofs.session.held_middle.Tie as tie
+use Rattle.carrier_state.proofs.session.held_turn.Statement.{statement}
+use Rattle.carrier_state.proofs.session.held_turn.Tie as tie
 
 abbrev Inv-loop : tie.InvT-loop
 Inv-loop alpha s out₀ i₀ out i = (1 ≤ i) × Filled (λ k. (alpha ∷ s) ! k) 193 193 out i
@@ -22,9 +22,9 @@ behind : (α : ℕ) (s : List ℕ) (i : ℕ) → 1 ≤ i → s ! (i - 1) ≡ (α
 behind α s zero h = absurd (not-suc-le-zero h)
 behind α s (suc i) h = ap (λ (k : ℕ). s ! k) (omega arith)
 
-pub held-middle-spec : {M : Type 1} → statement M
-unfolding heldMiddle tabulate
-held-middle-spec =
+pub held-turn-spec : {M : Type 1} → statement M
+unfolding heldTurn tabulate
+held-turn-spec =
     tie.close
     (tie.spec
     Inv-loop

@@ -1,14 +1,14 @@
 -- By cases on the scheme. Assumes nothing.
 use native.Mathlib.Omega.{arith}
 use borrow.Author.Tests.{ne-eqb}
-use Rattle.scheme.specs.Scheme.{middleLength}
+use Rattle.scheme.specs.Scheme.{turnLength}
 use borrow.Author.Needs.{needs}
-use Rattle.scheme.proofs.middle_length.Statement.{statement}
-use Rattle.scheme.proofs.middle_length.Tie as tie
+use Rattle.scheme.proofs.turn_length.Statement.{statement}
+use Rattle.scheme.proofs.turn_length.Tie as tie
 
-pub middle-length-spec : {M : Type 1} → statement M
-unfolding middleLength
-middle-length-spec =
+pub turn-length-spec : {M : Type 1} → statement M
+unfolding turnLength
+turn-length-spec =
     tie.close
     (tie.spec
     (λ c. search needs)
