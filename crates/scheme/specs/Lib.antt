@@ -1,2 +1,2 @@
--- What the contracts of this crate and of those above it cite: the two schemes' challenges and lengths.
+-- What the contracts of this crate and of those above it cite: the schemes, their bytes, counts and lengths.
 pub mod Scheme
