@@ -3,8 +3,10 @@ use card_state::Card;
 use card_state::CardAnswer;
 use card_state::CardPhase;
 use card_state::closed_card;
+use card_state::no_rhos;
 use card_state::open_refusal;
 use field::from_slice;
+use scheme::scheme_of;
 use slices::byte_at;
 ghost use mathlib.Core.Path.{_≡_};
 ghost use Rattle.refusal.specs.Refusal.{kept};
@@ -14,9 +16,10 @@ ghost use Rattle.card_state.specs.Card.{openRefusal, closedCard, openedCard};
 fn opened_card<'a>(system: &'a [u8], scheme: u8, rounds: u8, s: &'a [u8]) -> Card
     ensures { λ r. ⌜ r ≡ openedCard (now (system .entry)) scheme rounds (now (s .entry)) ⌝ }
 {
+    let passes = scheme_of(scheme);
     Card {
         phase: CardPhase::Commit,
-        scheme: scheme,
+        scheme: passes,
         q: byte_at(system, 0),
         n: byte_at(system, 1),
         m: byte_at(system, 2),
@@ -27,9 +30,7 @@ fn opened_card<'a>(system: &'a [u8], scheme: u8, rounds: u8, s: &'a [u8]) -> Car
         t0: [0; 96],
         e0: [0; 96],
         e1: [0; 96],
-        rho0: [0; 32],
-        rho1: [0; 32],
-        rho2: [0; 32],
+        rhos: no_rhos(),
     }
 }
 

@@ -4,15 +4,16 @@ use card_state::CardAnswer;
 use card_state::CardPhase;
 use card_state::card_with;
 use card_state::closed_card;
-use card_state::held_lent;
 use card_state::no_lent;
 use card_state::reply_refusal;
 use exchange::write_reply_five;
 use exchange::write_reply_three;
-use field::sub_vectors;
 use round::Vectors;
+use round::r1_of;
 use round::reply_five;
 use round::reply_three;
+use round::t1_of;
+use scheme::Scheme;
 use session_state::next_count;
 ghost use mathlib.Core.Path.{_≡_};
 ghost use mathlib.Core.Bool.{true};
@@ -34,9 +35,9 @@ fn held_vectors(card: Card) -> Vectors
     let e1 = card.e1;
     Vectors {
         r0: r0,
-        r1: sub_vectors(card.q, card.n, s, r0),
+        r1: r1_of(card.q, card.n, s, r0),
         t0: t0,
-        t1: sub_vectors(card.q, card.n, r0, t0),
+        t1: t1_of(card.q, card.n, r0, t0),
         e0: e0,
         e1: e1,
         mask: [0; 96],
@@ -44,25 +45,23 @@ fn held_vectors(card: Card) -> Vectors
 }
 
 fn write_reply(card: Card, challenge: u8, out: &mut [u8])
-    requires { ⌜ (areSizes (card .q) (card .n) (card .m) ≡ true) × (length (now out) ≡ replyLength (card .scheme) (card .n) (card .m)) ⌝ }
+    requires { ⌜ (areSizes (card .q) (card .n) (card .m) ≡ true)
+        × (length (now out) ≡ replyLength (card .scheme) (card .n) (card .m)) ⌝ }
     ensures { λ _. ⌜ now (out .exit) ≡ sentReply card challenge ⌝ }
 {
-    let rhos = held_lent(card).rhos;
-    if card.scheme == 3 {
-        write_reply_three(
-            reply_three(held_vectors(card), rhos, challenge),
-            card.n,
-            card.m,
-            out,
-        );
-    } else {
-        let s = card.s;
-        let r0 = card.r0;
-        write_reply_five(
-            reply_five(card.q, card.n, s, r0, rhos, challenge),
-            card.n,
-            out,
-        );
+    let scheme = card.scheme;
+    let rhos = card.rhos;
+    match scheme {
+        Scheme::ThreePass => {
+            let sent = reply_three(held_vectors(card), rhos, challenge);
+            write_reply_three(sent, card.n, card.m, out);
+        }
+        Scheme::FivePass => {
+            let s = card.s;
+            let r0 = card.r0;
+            let sent = reply_five(card.q, card.n, s, r0, rhos, challenge);
+            write_reply_five(sent, card.n, out);
+        }
     }
 }
 

@@ -9,12 +9,15 @@ use Rattle.refusal.specs.Refusal.{unless, _orElse_}
 use Rattle.field.specs.Ops.{ops}
 use Rattle.field.specs.Vector.{asVector, subV, allBelow}
 use Rattle.system.specs.System.{qOf, nOf, mOf, areSizes, systemRefusal, systemAgainst, F}
-use Rattle.scheme.specs.Scheme.{isScheme, isRounds, challenges, commitmentsLength, replyLength}
+use Rattle.scheme.specs.declared.Scheme.{Scheme}
+use Rattle.scheme.specs.declared.Scheme.the-variants.{ThreePass, FivePass}
+use Rattle.scheme.specs.Scheme.{schemeOf, isScheme, isRounds, challenges, hasAlpha, drawnLength, commitmentsLength, lentLength, replyLength}
+use Rattle.commitment.specs.declared.Domain.{Domain}
 use Rattle.protocol.specs.Protocols as P
-use Rattle.protocol.specs.Protocols.{t1By, e1By}
-use Rattle.protocol.specs.Rounds.{mapOf}
+use Rattle.protocol.specs.Protocols.{r1Of, t1Of}
 use Rattle.round.specs.ThreePass.{replyThree}
-use Rattle.round.specs.FivePass.{replyFive}
+use Rattle.round.specs.FivePass.{middleFive, replyFive}
+use Rattle.round.specs.declared.pieces.Rhos.{Rhos}
 use Rattle.exchange.specs.declared.read.Lent.{Lent}
 use Rattle.exchange.specs.Messages.{lentIn, threeCommitments, fiveCommitments, middleBytes, replyThreeBytes, replyFiveBytes}
 use Rattle.exchange.specs.Card.{threeVectors, threeCommitted, fiveCommitted}
@@ -31,12 +34,24 @@ phaseNumber Commit = 1
 phaseNumber AnswerAlpha = 2
 phaseNumber Reply = 3
 
--- "After round N the card's session is closed and every number in it is zero."; "a refused opening gives a closed session of zeros, its verdict \"none\""
+-- nothing lent
+unfoldable pub noRhos : Rhos
+noRhos = record { rho0 = zeros 32; rho1 = zeros 32; rho2 = zeros 32 }
+
+unfoldable pub noLent : Lent
+noLent = record { r0 = zeros 96; t0 = zeros 96; e0 = zeros 96; rhos = noRhos }
+
+-- what stands before ρ in every string that is hashed in a session
+unfoldable pub cardDomain : Card → Domain
+cardDomain card = record { scheme = card .scheme }
+
+-- "After round N the card's session is closed and every number in it is zero."; "a refused opening gives a closed session of zeros, its verdict \"none\"".
+-- A scheme is no number: the first one stands there, which is stored as 0
 unfoldable pub closedCard : Card
 closedCard =
     record {
       phase = Closed None;
-      scheme = 0;
+      scheme = ThreePass;
       q = 0;
       n = 0;
       m = 0;
@@ -47,14 +62,8 @@ closedCard =
       t0 = zeros 96;
       e0 = zeros 96;
       e1 = zeros 96;
-      rho0 = zeros 32;
-      rho1 = zeros 32;
-      rho2 = zeros 32;
+      rhos = noRhos;
     }
-
--- nothing lent
-unfoldable pub noLent : Lent
-noLent = record { r0 = zeros 96; t0 = zeros 96; e0 = zeros 96; rhos = record { rho0 = zeros 32; rho1 = zeros 32; rho2 = zeros 32 } }
 
 -- the same session in another phase and round, with what is lent for it
 unfoldable pub cardWith : Card → CardPhase → ℕ → Lent → List ℕ → Card
@@ -72,9 +81,7 @@ cardWith card phase round l e1 =
       t0 = l .t0;
       e0 = l .e0;
       e1 = e1;
-      rho0 = l .rhos .rho0;
-      rho1 = l .rhos .rho1;
-      rho2 = l .rhos .rho2;
+      rhos = l .rhos;
     }
 
 -- ---- open(system, scheme, N, v, s)
@@ -99,7 +106,7 @@ unfoldable pub openedCard : List ℕ → ℕ → ℕ → List ℕ → Card
 openedCard b scheme rounds s =
     record {
       phase = Commit;
-      scheme = scheme;
+      scheme = schemeOf scheme;
       q = qOf b;
       n = nOf b;
       m = mOf b;
@@ -110,9 +117,7 @@ openedCard b scheme rounds s =
       t0 = zeros 96;
       e0 = zeros 96;
       e1 = zeros 96;
-      rho0 = zeros 32;
-      rho1 = zeros 32;
-      rho2 = zeros 32;
+      rhos = noRhos;
     }
 
 -- ---- commit(system, lent, out)
@@ -120,23 +125,34 @@ openedCard b scheme rounds s =
 -- "11, 10; then the system .., then 7 against a session; then arguments left to right, all 1, all 2, all 3"
 unfoldable pub commitRefusal : Card → List ℕ → List ℕ → ℕ → ℕ
 commitRefusal card b lent out =
-    let vectors = card .n + card .n + card .m in
     stateRefusal (phaseNumber (card .phase)) 1 orElse
     systemAgainst b (card .q) (card .n) (card .m) orElse
-    unless (eqb (length lent) (vectors + commitmentsLength (card .scheme))) 2 orElse
+    unless (eqb (length lent) (lentLength (card .scheme) (card .n) (card .m))) 2 orElse
     unless (eqb out (commitmentsLength (card .scheme))) 2 orElse
-    unless (allBelow (card .q) (take vectors lent)) 3
+    unless (allBelow (card .q) (take (drawnLength (card .scheme) (card .n) (card .m)) lent)) 3
 
--- what is lent is kept; e1 of three passes too, since the system is not lent again for the reply
+-- "then per round commit and reply, in scheme 5 with the reply to α between"
+unfoldable pub behindCommit : Scheme → CardPhase
+behindCommit scheme = cond (hasAlpha scheme) AnswerAlpha Reply
+
+-- e1 of three passes, since the system is not lent again for the reply
+unfoldable pub keptE1 : Scheme → List ℕ → List ℕ → List ℕ → List ℕ
+keptE1 ThreePass b s lent = threeVectors b s lent .e1
+keptE1 FivePass b s lent = zeros 96
+
+-- what is lent is kept, and e1
 unfoldable pub committedCard : Card → List ℕ → List ℕ → Card
 committedCard card b lent =
-    cardWith card (cond (eqb (card .scheme) 3) Reply AnswerAlpha) (card .round) (lentIn (nOf b) (mOf b) lent)
-    (cond (eqb (card .scheme) 3) (threeVectors b (card .s) lent .e1) (zeros 96))
+    cardWith card (behindCommit (card .scheme)) (card .round) (lentIn (nOf b) (mOf b) lent) (keptE1 (card .scheme) b (card .s) lent)
 
--- the commitments that are sent
+-- the commitments of a round, from the secret and what is lent
+unfoldable pub commitmentsOf : Scheme → Domain → List ℕ → List ℕ → List ℕ → List ℕ
+commitmentsOf ThreePass d b s lent = threeCommitments (threeCommitted d b s lent)
+commitmentsOf FivePass d b s lent = fiveCommitments (fiveCommitted d b s lent)
+
+-- those that are sent
 unfoldable pub sentCommitments : Card → List ℕ → List ℕ → List ℕ
-sentCommitments card b lent =
-    cond (eqb (card .scheme) 3) (threeCommitments (threeCommitted b (card .s) lent)) (fiveCommitments (fiveCommitted b (card .s) lent))
+sentCommitments card b lent = commitmentsOf (card .scheme) (cardDomain card) b (card .s) lent
 
 -- ---- reply to α (system, α, out)
 
@@ -149,8 +165,7 @@ alphaRefusal card b α out =
 
 -- what is lent for the round, as the card holds it
 unfoldable pub heldLent : Card → Lent
-heldLent card =
-    record { r0 = card .r0; t0 = card .t0; e0 = card .e0; rhos = record { rho0 = card .rho0; rho1 = card .rho1; rho2 = card .rho2 } }
+heldLent card = record { r0 = card .r0; t0 = card .t0; e0 = card .e0; rhos = card .rhos }
 
 -- a card that has answered α
 unfoldable pub answeredCard : Card → Card
@@ -158,7 +173,7 @@ answeredCard card = cardWith card Reply (card .round) (heldLent card) (card .e1)
 
 -- "The card sends t1 = αr0 - t0, then e1 = αF(r0) - e0."
 unfoldable pub sentMiddle : Card → List ℕ → ℕ → List ℕ
-sentMiddle card b α = middleBytes (nOf b) (mOf b) (record { t1 = t1By (mapOf b) α (card .r0) (card .t0); e1 = e1By (mapOf b) α (card .r0) (card .e0) })
+sentMiddle card b α = middleBytes (nOf b) (mOf b) (middleFive b α (card .r0) (card .t0) (card .e0))
 
 -- ---- reply(challenge, out)
 
@@ -181,18 +196,22 @@ repliedCard card = cond (ltb (nextCount (card .round)) (card .rounds)) (nextCard
 -- the vectors of a three-pass round as the card holds them; the reply opens none with the mask
 unfoldable pub heldVectors : Card → P.Vectors (List ℕ) (List ℕ)
 heldVectors card =
+    let minus = subV (ops (card .q)) (card .n) in
     record {
       r0 = card .r0;
-      r1 = subV (ops (card .q)) (card .n) (card .s) (card .r0);
+      r1 = r1Of minus (card .s) (card .r0);
       t0 = card .t0;
-      t1 = subV (ops (card .q)) (card .n) (card .r0) (card .t0);
+      t1 = t1Of minus (card .r0) (card .t0);
       e0 = card .e0;
       e1 = card .e1;
       mask = zeros 96;
     }
 
--- the reply that is sent
+-- the reply of a round
+unfoldable pub replyOf : Scheme → Card → ℕ → List ℕ
+replyOf ThreePass card challenge = replyThreeBytes (card .n) (card .m) (replyThree (heldVectors card) (card .rhos) challenge)
+replyOf FivePass card challenge = replyFiveBytes (card .n) (replyFive (card .q) (card .n) (card .s) (card .r0) (card .rhos) challenge)
+
+-- the one that is sent
 unfoldable pub sentReply : Card → ℕ → List ℕ
-sentReply card challenge =
-    cond (eqb (card .scheme) 3) (replyThreeBytes (card .n) (card .m) (replyThree (heldVectors card) (heldLent card .rhos) challenge))
-    (replyFiveBytes (card .n) (replyFive (card .q) (card .n) (card .s) (card .r0) (heldLent card .rhos) challenge))
+sentReply card challenge = replyOf (card .scheme) card challenge

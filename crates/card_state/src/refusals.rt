@@ -8,8 +8,10 @@ use refusal::first;
 use refusal::unless;
 use scheme::challenges;
 use scheme::commitments_length;
+use scheme::drawn_length;
 use scheme::is_rounds;
 use scheme::is_scheme;
+use scheme::lent_length;
 use scheme::reply_length;
 use session_state::state_refusal;
 use slices::byte_at;
@@ -25,13 +27,20 @@ ghost use Rattle.card_state.specs.Card.{openForm, openRefusal, commitRef
 fn open_form<'a>(system: &'a [u8], scheme: u8, rounds: u8, v: &'a [u8], s: &'a [u8]) -> u8
     ensures { λ r. ⌜ r ≡ openForm (now (system .entry)) scheme rounds (now (v .entry)) (now (s .entry)) ⌝ }
 {
+    let refused = check(system);
+    if refused != 0 {
+        return refused;
+    }
     let q = byte_at(system, 0);
     let n = byte_at(system, 1) as usize;
     let m = byte_at(system, 2) as usize;
     let values = first(unless(is_scheme(scheme), 1), unless(is_rounds(rounds), 1));
     let lengths = first(unless(v.len() == m, 2), unless(s.len() == n, 2));
-    let elements = first(unless(all_below(q, v), 3), unless(all_below(q, s), 3));
-    first(check(system), first(values, first(lengths, elements)))
+    let form = first(values, lengths);
+    if form != 0 {
+        return form;
+    }
+    first(unless(all_below(q, v), 3), unless(all_below(q, s), 3))
 }
 
 // The refusal of an opening: F(s) is formed only where nothing else is wrong.
@@ -52,16 +61,21 @@ pub fn commit_refusal<'a>(card: Card, system: &'a [u8], lent: &'a [u8], out_len:
     ensures { λ r. ⌜ r ≡ commitRefusal card (now (system .entry)) (now (lent .entry)) «out_len» ⌝ }
 {
     let phase = card.phase;
-    let vectors = card.n as usize + card.n as usize + card.m as usize;
-    let each = commitments_length(card.scheme);
+    let scheme = card.scheme;
     let state = state_refusal(phase_number(phase), 1);
-    let front = check_against(system, card.q, card.n, card.m);
+    if state != 0 {
+        return state;
+    }
+    let against = check_against(system, card.q, card.n, card.m);
+    if against != 0 {
+        return against;
+    }
     let lengths = first(
-        unless(lent.len() == vectors + each, 2),
-        unless(out_len == each, 2),
+        unless(lent.len() == lent_length(scheme, card.n, card.m), 2),
+        unless(out_len == commitments_length(scheme), 2),
     );
-    let elements = unless(all_below(card.q, part(lent, 0, vectors)), 3);
-    first(state, first(front, first(lengths, elements)))
+    let drawn = part(lent, 0, drawn_length(scheme, card.n, card.m));
+    first(lengths, unless(all_below(card.q, drawn), 3))
 }
 
 // What `answer_alpha` refuses.
@@ -70,12 +84,17 @@ pub fn alpha_refusal(card: Card, system: &[u8], alpha: u8, out_len: usize) -> u8
 {
     let phase = card.phase;
     let state = state_refusal(phase_number(phase), 2);
-    let lent = check_against(system, card.q, card.n, card.m);
-    let back = first(
+    if state != 0 {
+        return state;
+    }
+    let against = check_against(system, card.q, card.n, card.m);
+    if against != 0 {
+        return against;
+    }
+    first(
         unless(out_len == card.n as usize + card.m as usize, 2),
         unless(alpha < card.q, 3),
-    );
-    first(state, first(lent, back))
+    )
 }
 
 // What `reply` refuses; 1 is for a q, n or m that no opening gives a session.
@@ -83,12 +102,12 @@ pub fn reply_refusal(card: Card, challenge: u8, out_len: usize) -> u8
     ensures { λ r. ⌜ r ≡ replyRefusal card challenge «out_len» ⌝ }
 {
     let phase = card.phase;
-    let expected = reply_length(card.scheme, card.n, card.m);
+    let scheme = card.scheme;
     let state = state_refusal(phase_number(phase), 3);
     let values = unless(are_sizes(card.q, card.n, card.m), 1);
     let back = first(
-        unless(out_len == expected, 2),
-        unless(challenge < challenges(card.scheme), 4),
+        unless(out_len == reply_length(scheme, card.n, card.m), 2),
+        unless(challenge < challenges(scheme), 4),
     );
     first(state, first(values, back))
 }

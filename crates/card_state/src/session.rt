@@ -1,9 +1,11 @@
 // The session's struct.
+use commitment::Domain;
 use exchange::Lent;
 use round::Rhos;
+use scheme::Scheme;
 use session_state::Verdict;
 ghost use mathlib.Core.Path.{_≡_};
-ghost use Rattle.card_state.specs.Card.{phaseNumber, closedCard, noLent, cardWith, heldLent};
+ghost use Rattle.card_state.specs.Card.{phaseNumber, noRhos, noLent, cardDomain, closedCard, cardWith, heldLent};
 
 // The next call that is due.
 pub enum CardPhase {
@@ -17,7 +19,7 @@ pub enum CardPhase {
 // passes, formed when the card commits; the system is not lent again for the reply.
 pub struct Card {
     pub phase: CardPhase,
-    pub scheme: u8,
+    pub scheme: Scheme,
     pub q: u8,
     pub n: u8,
     pub m: u8,
@@ -28,9 +30,7 @@ pub struct Card {
     pub t0: [u8; 96],
     pub e0: [u8; 96],
     pub e1: [u8; 96],
-    pub rho0: [u8; 32],
-    pub rho1: [u8; 32],
-    pub rho2: [u8; 32],
+    pub rhos: Rhos,
 }
 
 // The number of the refusal, 0 for none, and the session afterwards.
@@ -51,23 +51,19 @@ pub fn phase_number(phase: CardPhase) -> u8
     }
 }
 
-// A closed session: zeros.
-pub fn closed_card() -> Card
-    ensures { λ r. ⌜ r ≡ closedCard ⌝ }
+// What stands before ρ in every string that is hashed in the session.
+pub fn card_domain(card: Card) -> Domain
+    ensures { λ r. ⌜ r ≡ cardDomain card ⌝ }
 {
-    Card {
-        phase: CardPhase::Closed(Verdict::None),
-        scheme: 0,
-        q: 0,
-        n: 0,
-        m: 0,
-        rounds: 0,
-        round: 0,
-        s: [0; 96],
-        r0: [0; 96],
-        t0: [0; 96],
-        e0: [0; 96],
-        e1: [0; 96],
+    let scheme = card.scheme;
+    Domain { scheme: scheme }
+}
+
+// No ρ lent.
+pub fn no_rhos() -> Rhos
+    ensures { λ r. ⌜ r ≡ noRhos ⌝ }
+{
+    Rhos {
         rho0: [0; 32],
         rho1: [0; 32],
         rho2: [0; 32],
@@ -82,11 +78,28 @@ pub fn no_lent() -> Lent
         r0: [0; 96],
         t0: [0; 96],
         e0: [0; 96],
-        rhos: Rhos {
-            rho0: [0; 32],
-            rho1: [0; 32],
-            rho2: [0; 32],
-        },
+        rhos: no_rhos(),
+    }
+}
+
+// A closed session: zeros, and the first scheme.
+pub fn closed_card() -> Card
+    ensures { λ r. ⌜ r ≡ closedCard ⌝ }
+{
+    Card {
+        phase: CardPhase::Closed(Verdict::None),
+        scheme: Scheme::ThreePass,
+        q: 0,
+        n: 0,
+        m: 0,
+        rounds: 0,
+        round: 0,
+        s: [0; 96],
+        r0: [0; 96],
+        t0: [0; 96],
+        e0: [0; 96],
+        e1: [0; 96],
+        rhos: no_rhos(),
     }
 }
 
@@ -94,16 +107,15 @@ pub fn no_lent() -> Lent
 pub fn card_with(card: Card, phase: CardPhase, round: u8, l: Lent, e1: [u8; 96]) -> Card
     ensures { λ r. ⌜ r ≡ cardWith card phase round l e1 ⌝ }
 {
+    let scheme = card.scheme;
     let s = card.s;
     let r0 = l.r0;
     let t0 = l.t0;
     let e0 = l.e0;
-    let rho0 = l.rhos.rho0;
-    let rho1 = l.rhos.rho1;
-    let rho2 = l.rhos.rho2;
+    let rhos = l.rhos;
     Card {
         phase: phase,
-        scheme: card.scheme,
+        scheme: scheme,
         q: card.q,
         n: card.n,
         m: card.m,
@@ -114,9 +126,7 @@ pub fn card_with(card: Card, phase: CardPhase, round: u8, l: Lent, e1: [u8; 96])
         t0: t0,
         e0: e0,
         e1: e1,
-        rho0: rho0,
-        rho1: rho1,
-        rho2: rho2,
+        rhos: rhos,
     }
 }
 
@@ -127,17 +137,11 @@ pub fn held_lent(card: Card) -> Lent
     let r0 = card.r0;
     let t0 = card.t0;
     let e0 = card.e0;
-    let rho0 = card.rho0;
-    let rho1 = card.rho1;
-    let rho2 = card.rho2;
+    let rhos = card.rhos;
     Lent {
         r0: r0,
         t0: t0,
         e0: e0,
-        rhos: Rhos {
-            rho0: rho0,
-            rho1: rho1,
-            rho2: rho2,
-        },
+        rhos: rhos,
     }
 }

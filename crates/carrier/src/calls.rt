@@ -5,21 +5,24 @@ use carrier_state::CarrierPhase;
 use carrier_state::Judged;
 use carrier_state::alpha_refusal;
 use carrier_state::answer;
+use carrier_state::carrier_domain;
 use carrier_state::carrier_with;
 use carrier_state::challenge_refusal;
 use carrier_state::closed_carrier;
 use carrier_state::commitments_refusal;
+use carrier_state::held_commitments;
 use carrier_state::held_turn;
 use carrier_state::middle_refusal;
 use carrier_state::reply_refusal;
 use exchange::judge;
-use field::from_slice;
+use scheme::has_alpha;
 use session_state::Verdict;
 use session_state::next_count;
 ghost use mathlib.Core.Path.{_≡_};
 ghost use mathlib.Core.Bool.{false};
 ghost use Rattle.refusal.specs.Refusal.{kept};
-ghost use Rattle.carrier_state.specs.Carrier.{commitmentsRefusal, withCommitments, alphaRefusal, withAlpha, middleRefusal, withMiddle, challengeRefusal, withChallenge, replyRefusal, acceptsReply, judgedCarrier};
+ghost use Rattle.carrier_state.specs.Carrier.{commitmentsRefusal, withCommitments, alphaRefusal, withAlpha, middleRefusal, withMiddle};
+ghost use Rattle.carrier_state.specs.Carrier.{challengeRefusal, withChallenge, replyRefusal, acceptsReply, judgedCarrier};
 
 // Takes the commitments of a round.
 pub fn take_commitments(c: Carrier, commitments: &[u8]) -> CarrierAnswer
@@ -33,11 +36,12 @@ pub fn take_commitments(c: Carrier, commitments: &[u8]) -> CarrierAnswer
 fn with_commitments(c: Carrier, commitments: &[u8]) -> Carrier
     ensures { λ r. ⌜ r ≡ withCommitments c (now (commitments .entry)) ⌝ }
 {
-    let held = from_slice(commitments);
-    if c.scheme == 3 {
-        carrier_with(c, CarrierPhase::SetChallenge, c.accepted, held, [0; 193], 0)
-    } else {
+    let held = held_commitments(commitments);
+    let scheme = c.scheme;
+    if has_alpha(scheme) {
         carrier_with(c, CarrierPhase::SetAlpha, c.accepted, held, [0; 193], 0)
+    } else {
+        carrier_with(c, CarrierPhase::SetChallenge, c.accepted, held, [0; 193], 0)
     }
 }
 
@@ -58,7 +62,7 @@ pub fn take_middle(c: Carrier, middle: &[u8]) -> CarrierAnswer
 {
     let refused = middle_refusal(c, middle);
     let sent = c.commitments;
-    let held = held_turn(c.middle[0], middle);
+    let held = held_turn(c.turn[0], middle);
     let with_middle = carrier_with(c, CarrierPhase::SetChallenge, c.accepted, sent, held, 0);
     answer(refused, c, with_middle)
 }
@@ -69,7 +73,7 @@ pub fn set_challenge(c: Carrier, challenge: u8) -> CarrierAnswer
 {
     let refused = challenge_refusal(c, challenge);
     let sent = c.commitments;
-    let held = c.middle;
+    let held = c.turn;
     let with_challenge = carrier_with(
         c,
         CarrierPhase::TakeReply,
@@ -88,7 +92,8 @@ fn judged_carrier(c: Carrier, accepted: bool) -> Carrier
     let next = next_count(c.accepted);
     if accepted {
         if next < c.rounds {
-            carrier_with(c, CarrierPhase::TakeCommitments, next, [0; 96], [0; 193], 0)
+            let none = held_commitments(&[]);
+            carrier_with(c, CarrierPhase::TakeCommitments, next, none, [0; 193], 0)
         } else {
             closed_carrier(Verdict::Accepted, next)
         }
@@ -113,13 +118,13 @@ pub fn take_reply<'a>(c: Carrier, system: &'a [u8], reply: &'a [u8]) -> Judged
     }
     let v = c.v;
     let commitments = c.commitments;
-    let middle = c.middle;
+    let turn = c.turn;
     let accepted = judge(
         system,
-        c.scheme,
+        carrier_domain(c),
         v,
         &commitments,
-        &middle,
+        &turn,
         c.challenge,
         reply,
     );

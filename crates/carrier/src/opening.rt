@@ -4,8 +4,10 @@ use carrier_state::CarrierAnswer;
 use carrier_state::CarrierPhase;
 use carrier_state::answer;
 use carrier_state::closed_carrier;
+use carrier_state::held_commitments;
 use carrier_state::open_refusal;
 use field::from_slice;
+use scheme::scheme_of;
 use session_state::Verdict;
 use slices::byte_at;
 ghost use mathlib.Core.Path.{_≡_};
@@ -17,17 +19,18 @@ ghost use Rattle.carrier_state.specs.Carrier.{openRefusal, closedCarrier, opene
 fn opened_carrier<'a>(system: &'a [u8], scheme: u8, rounds: u8, v: &'a [u8]) -> Carrier
     ensures { λ r. ⌜ r ≡ openedCarrier (now (system .entry)) scheme rounds (now (v .entry)) ⌝ }
 {
+    let passes = scheme_of(scheme);
     Carrier {
         phase: CarrierPhase::TakeCommitments,
-        scheme: scheme,
+        scheme: passes,
         q: byte_at(system, 0),
         n: byte_at(system, 1),
         m: byte_at(system, 2),
         rounds: rounds,
         accepted: 0,
         v: from_slice(v),
-        commitments: [0; 96],
-        middle: [0; 193],
+        commitments: held_commitments(&[]),
+        turn: [0; 193],
         challenge: 0,
     }
 }

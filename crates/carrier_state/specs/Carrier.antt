@@ -8,7 +8,10 @@ use Rattle.slices.specs.Slices.{_!_, tabulate, zeros}
 use Rattle.refusal.specs.Refusal.{unless, _orElse_}
 use Rattle.field.specs.Vector.{asVector, allBelow}
 use Rattle.system.specs.System.{qOf, nOf, mOf, systemRefusal, systemAgainst}
-use Rattle.scheme.specs.Scheme.{isScheme, isRounds, challenges, commitmentsLength, vectorsLength, replyLength}
+use Rattle.scheme.specs.declared.Scheme.{Scheme}
+use Rattle.scheme.specs.declared.Scheme.the-variants.{ThreePass}
+use Rattle.scheme.specs.Scheme.{schemeOf, isScheme, isRounds, challenges, hasAlpha, commitmentsLength, vectorsLength, replyLength}
+use Rattle.commitment.specs.declared.Domain.{Domain}
 use Rattle.exchange.specs.Messages.{accepts}
 use Rattle.session_state.specs.declared.Verdict.{Verdict}
 use Rattle.session_state.specs.declared.Verdict.the-variants.{Accepted, Rejected}
@@ -26,26 +29,39 @@ phaseNumber TakeMiddle = 3
 phaseNumber SetChallenge = 4
 phaseNumber TakeReply = 5
 
--- "The closed session keeps the verdict and the count of accepted rounds. Its other numbers are zero."
+-- what stands before ρ in every string that is hashed in a session
+unfoldable pub carrierDomain : Carrier → Domain
+carrierDomain c = record { scheme = c .scheme }
+
+-- a round's commitments by value in 96 bytes, zero beyond their length
+unfoldable pub heldCommitments : List ℕ → List ℕ
+heldCommitments l = tabulate 96 (λ i. l ! i)
+
+-- α, t1 and e1 by value in 193 bytes, zero beyond their length
+unfoldable pub heldTurn : ℕ → List ℕ → List ℕ
+heldTurn α l = tabulate 193 (λ i. (α ∷ l) ! i)
+
+-- "The closed session keeps the verdict and the count of accepted rounds. Its other numbers are zero.": a scheme is no number, and the first one stands there,
+-- which is stored as 0
 unfoldable pub closedCarrier : Verdict → ℕ → Carrier
 closedCarrier verdict accepted =
     record {
       phase = Closed verdict;
-      scheme = 0;
+      scheme = ThreePass;
       q = 0;
       n = 0;
       m = 0;
       rounds = 0;
       accepted = accepted;
       v = zeros 96;
-      commitments = zeros 96;
-      middle = zeros 193;
+      commitments = heldCommitments [];
+      turn = zeros 193;
       challenge = 0;
     }
 
 -- the same session in another phase, with the messages of the round so far
 unfoldable pub carrierWith : Carrier → CarrierPhase → ℕ → List ℕ → List ℕ → ℕ → Carrier
-carrierWith c phase accepted commitments middle challenge =
+carrierWith c phase accepted commitments turn challenge =
     record {
       phase = phase;
       scheme = c .scheme;
@@ -56,13 +72,9 @@ carrierWith c phase accepted commitments middle challenge =
       accepted = accepted;
       v = c .v;
       commitments = commitments;
-      middle = middle;
+      turn = turn;
       challenge = challenge;
     }
-
--- α, t1 and e1 by value in 193 bytes, zero beyond their length
-unfoldable pub heldTurn : ℕ → List ℕ → List ℕ
-heldTurn α l = tabulate 193 (λ i. (α ∷ l) ! i)
 
 -- ---- open(system, scheme, N, v)
 
@@ -78,15 +90,15 @@ unfoldable pub openedCarrier : List ℕ → ℕ → ℕ → List ℕ → Carrier
 openedCarrier b scheme rounds v =
     record {
       phase = TakeCommitments;
-      scheme = scheme;
+      scheme = schemeOf scheme;
       q = qOf b;
       n = nOf b;
       m = mOf b;
       rounds = rounds;
       accepted = 0;
       v = asVector v;
-      commitments = zeros 96;
-      middle = zeros 193;
+      commitments = heldCommitments [];
+      turn = zeros 193;
       challenge = 0;
     }
 
@@ -96,9 +108,12 @@ unfoldable pub commitmentsRefusal : Carrier → List ℕ → ℕ
 commitmentsRefusal c commitments =
     stateRefusal (phaseNumber (c .phase)) 1 orElse unless (eqb (length commitments) (commitmentsLength (c .scheme))) 2
 
+-- "set α (scheme 5), take t1 and e1 (scheme 5), set challenge"
+unfoldable pub behindCommitments : Scheme → CarrierPhase
+behindCommitments scheme = cond (hasAlpha scheme) SetAlpha SetChallenge
+
 unfoldable pub withCommitments : Carrier → List ℕ → Carrier
-withCommitments c commitments =
-    carrierWith c (cond (eqb (c .scheme) 3) SetChallenge SetAlpha) (c .accepted) (asVector commitments) (zeros 193) 0
+withCommitments c commitments = carrierWith c (behindCommitments (c .scheme)) (c .accepted) (heldCommitments commitments) (zeros 193) 0
 
 -- ---- set α (scheme 5)
 
@@ -115,7 +130,7 @@ middleRefusal c middle =
     stateRefusal (phaseNumber (c .phase)) 3 orElse unless (eqb (length middle) (c .n + c .m)) 2 orElse unless (allBelow (c .q) middle) 3
 
 unfoldable pub withMiddle : Carrier → List ℕ → Carrier
-withMiddle c middle = carrierWith c SetChallenge (c .accepted) (c .commitments) (heldTurn (c .middle ! 0) middle) 0
+withMiddle c middle = carrierWith c SetChallenge (c .accepted) (c .commitments) (heldTurn (c .turn ! 0) middle) 0
 
 -- ---- set challenge
 
@@ -123,7 +138,7 @@ unfoldable pub challengeRefusal : Carrier → ℕ → ℕ
 challengeRefusal c challenge = stateRefusal (phaseNumber (c .phase)) 4 orElse unless (ltb challenge (challenges (c .scheme))) 4
 
 unfoldable pub withChallenge : Carrier → ℕ → Carrier
-withChallenge c challenge = carrierWith c TakeReply (c .accepted) (c .commitments) (c .middle) challenge
+withChallenge c challenge = carrierWith c TakeReply (c .accepted) (c .commitments) (c .turn) challenge
 
 -- ---- take reply(system, reply)
 
@@ -136,12 +151,12 @@ replyRefusal c b reply =
 
 -- "Taking a reply answers accept or reject."
 unfoldable pub acceptsReply : Carrier → List ℕ → List ℕ → Bool
-acceptsReply c b reply = accepts b (c .scheme) (c .v) (c .commitments) (c .middle) (c .challenge) reply
+acceptsReply c b reply = accepts b (carrierDomain c) (c .v) (c .commitments) (c .turn) (c .challenge) reply
 
 -- "A rejected round closes the session as rejected; the N-th accepted round closes it as accepted."
 unfoldable pub judgedCarrier : Carrier → Bool → Carrier
 judgedCarrier c accepted =
     cond accepted
-    (cond (ltb (nextCount (c .accepted)) (c .rounds)) (carrierWith c TakeCommitments (nextCount (c .accepted)) (zeros 96) (zeros 193) 0)
+    (cond (ltb (nextCount (c .accepted)) (c .rounds)) (carrierWith c TakeCommitments (nextCount (c .accepted)) (heldCommitments []) (zeros 193) 0)
     (closedCarrier Accepted (nextCount (c .accepted))))
     (closedCarrier Rejected (c .accepted))

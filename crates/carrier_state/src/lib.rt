@@ -13,6 +13,8 @@ pub use session::CarrierAnswer;
 pub use session::CarrierPhase;
 pub use session::Judged;
 pub use session::answer;
+pub use session::carrier_domain;
 pub use session::carrier_with;
 pub use session::closed_carrier;
+pub use session::held_commitments;
 pub use session::held_turn;

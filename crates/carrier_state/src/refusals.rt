@@ -22,12 +22,16 @@ ghost use Rattle.carrier_state.specs.Carrier.{openRefusal, commitmentsRe
 pub fn open_refusal<'a>(system: &'a [u8], scheme: u8, rounds: u8, v: &'a [u8]) -> u8
     ensures { λ r. ⌜ r ≡ openRefusal (now (system .entry)) scheme rounds (now (v .entry)) ⌝ }
 {
+    let refused = check(system);
+    if refused != 0 {
+        return refused;
+    }
     let values = first(unless(is_scheme(scheme), 1), unless(is_rounds(rounds), 1));
-    let key = first(
-        unless(v.len() == byte_at(system, 2) as usize, 2),
-        unless(all_below(byte_at(system, 0), v), 3),
-    );
-    first(check(system), first(values, key))
+    let form = first(values, unless(v.len() == byte_at(system, 2) as usize, 2));
+    if form != 0 {
+        return form;
+    }
+    unless(all_below(byte_at(system, 0), v), 3)
 }
 
 // What `take_commitments` refuses.
@@ -35,7 +39,8 @@ pub fn commitments_refusal(c: Carrier, commitments: &[u8]) -> u8
     ensures { λ r. ⌜ r ≡ commitmentsRefusal c (now (commitments .entry)) ⌝ }
 {
     let phase = c.phase;
-    let length = unless(commitments.len() == commitments_length(c.scheme), 2);
+    let scheme = c.scheme;
+    let length = unless(commitments.len() == commitments_length(scheme), 2);
     first(state_refusal(phase_number(phase), 1), length)
 }
 
@@ -55,11 +60,12 @@ pub fn middle_refusal(c: Carrier, middle: &[u8]) -> u8
     ensures { λ r. ⌜ r ≡ middleRefusal c (now (middle .entry)) ⌝ }
 {
     let phase = c.phase;
-    let form = first(
-        unless(middle.len() == c.n as usize + c.m as usize, 2),
-        unless(all_below(c.q, middle), 3),
-    );
-    first(state_refusal(phase_number(phase), 3), form)
+    let length = unless(middle.len() == c.n as usize + c.m as usize, 2);
+    let form = first(state_refusal(phase_number(phase), 3), length);
+    if form != 0 {
+        return form;
+    }
+    unless(all_below(c.q, middle), 3)
 }
 
 // What `set_challenge` refuses.
@@ -67,9 +73,10 @@ pub fn challenge_refusal(c: Carrier, challenge: u8) -> u8
     ensures { λ r. ⌜ r ≡ challengeRefusal c challenge ⌝ }
 {
     let phase = c.phase;
+    let scheme = c.scheme;
     first(
         state_refusal(phase_number(phase), 4),
-        unless(challenge < challenges(c.scheme), 4),
+        unless(challenge < challenges(scheme), 4),
     )
 }
 
@@ -78,12 +85,18 @@ pub fn reply_refusal<'a>(c: Carrier, system: &'a [u8], reply: &'a [u8]) -> u8
     ensures { λ r. ⌜ r ≡ replyRefusal c (now (system .entry)) (now (reply .entry)) ⌝ }
 {
     let phase = c.phase;
-    let vectors = vectors_length(c.scheme, c.n, c.m);
+    let scheme = c.scheme;
     let state = state_refusal(phase_number(phase), 5);
-    let front = check_against(system, c.q, c.n, c.m);
-    let form = first(
-        unless(reply.len() == reply_length(c.scheme, c.n, c.m), 2),
-        unless(all_below(c.q, part(reply, 0, vectors)), 3),
-    );
-    first(state, first(front, form))
+    if state != 0 {
+        return state;
+    }
+    let against = check_against(system, c.q, c.n, c.m);
+    if against != 0 {
+        return against;
+    }
+    let vectors = part(reply, 0, vectors_length(scheme, c.n, c.m));
+    first(
+        unless(reply.len() == reply_length(scheme, c.n, c.m), 2),
+        unless(all_below(c.q, vectors), 3),
+    )
 }

@@ -1,9 +1,12 @@
 // The session's struct.
+use commitment::Domain;
+use field::from_slice;
+use scheme::Scheme;
 use session_state::Verdict;
 use slices::byte_at;
 ghost use mathlib.Core.Path.{_≡_};
 ghost use Rattle.refusal.specs.Refusal.{kept};
-ghost use Rattle.carrier_state.specs.Carrier.{phaseNumber, closedCarrier, carrierWith, heldTurn};
+ghost use Rattle.carrier_state.specs.Carrier.{phaseNumber, carrierDomain, heldCommitments, heldTurn, closedCarrier, carrierWith};
 
 // The next call that is due.
 pub enum CarrierPhase {
@@ -15,11 +18,11 @@ pub enum CarrierPhase {
     Closed(Verdict),
 }
 
-// A carrier's session: what it was opened with, how many rounds were accepted, and the messages of this one so far; `middle`
-// is α, t1 and e1 of scheme 5, as in a record.
+// A carrier's session: what it was opened with, how many rounds were accepted, and the messages of this one so far; `turn` is
+// α, t1 and e1 of scheme 5, as in a record.
 pub struct Carrier {
     pub phase: CarrierPhase,
-    pub scheme: u8,
+    pub scheme: Scheme,
     pub q: u8,
     pub n: u8,
     pub m: u8,
@@ -27,7 +30,7 @@ pub struct Carrier {
     pub accepted: u8,
     pub v: [u8; 96],
     pub commitments: [u8; 96],
-    pub middle: [u8; 193],
+    pub turn: [u8; 193],
     pub challenge: u8,
 }
 
@@ -75,21 +78,36 @@ pub fn phase_number(phase: CarrierPhase) -> u8
     }
 }
 
-// A closed session: the verdict, the count of accepted rounds, and zeros.
+// What stands before ρ in every string that is hashed in the session.
+pub fn carrier_domain(c: Carrier) -> Domain
+    ensures { λ r. ⌜ r ≡ carrierDomain c ⌝ }
+{
+    let scheme = c.scheme;
+    Domain { scheme: scheme }
+}
+
+// The commitments of a round, zero beyond their length; of none, zeros.
+pub fn held_commitments(s: &[u8]) -> [u8; 96]
+    ensures { λ r. ⌜ r ≡ heldCommitments (now (s .entry)) ⌝ }
+{
+    from_slice(s)
+}
+
+// A closed session: the verdict, the count of accepted rounds, zeros, and the first scheme.
 pub fn closed_carrier(verdict: Verdict, accepted: u8) -> Carrier
     ensures { λ r. ⌜ r ≡ closedCarrier verdict accepted ⌝ }
 {
     Carrier {
         phase: CarrierPhase::Closed(verdict),
-        scheme: 0,
+        scheme: Scheme::ThreePass,
         q: 0,
         n: 0,
         m: 0,
         rounds: 0,
         accepted: accepted,
         v: [0; 96],
-        commitments: [0; 96],
-        middle: [0; 193],
+        commitments: held_commitments(&[]),
+        turn: [0; 193],
         challenge: 0,
     }
 }
@@ -100,15 +118,16 @@ pub fn carrier_with(
     phase: CarrierPhase,
     accepted: u8,
     commitments: [u8; 96],
-    middle: [u8; 193],
+    turn: [u8; 193],
     challenge: u8,
 ) -> Carrier
-    ensures { λ r. ⌜ r ≡ carrierWith c phase accepted commitments middle challenge ⌝ }
+    ensures { λ r. ⌜ r ≡ carrierWith c phase accepted commitments turn challenge ⌝ }
 {
+    let scheme = c.scheme;
     let v = c.v;
     Carrier {
         phase: phase,
-        scheme: c.scheme,
+        scheme: scheme,
         q: c.q,
         n: c.n,
         m: c.m,
@@ -116,7 +135,7 @@ pub fn carrier_with(
         accepted: accepted,
         v: v,
         commitments: commitments,
-        middle: middle,
+        turn: turn,
         challenge: challenge,
     }
 }

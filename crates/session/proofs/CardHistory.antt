@@ -1,32 +1,40 @@
 -- The card's session along every list of calls, honest or not: its phase, and what was given. Assumes nothing.
 use Prim.Native.Nat.{ℕ, _+_, _≤_, _<_}
 use mathlib.Core.Path.{_≡_, refl, sym, ap, subst, _∙_}
-use mathlib.Core.Bool.{cond}
 use mathlib.Core.List.{List}
 use mathlib.Core.Logic.{_⊎_, inl, inr, ⊎-elim}
 use native.Mathlib.Nat.{lt-of-not-le, eq-or-lt-of-le}
 use native.Mathlib.Decide.{decLe}
 use native.Mathlib.Omega.{arith}
-use lib.Dec.{eqb}
-use borrow.Author.Tests.{ne-eqb, lt-ltb, le-ltb}
+use borrow.Author.Tests.{lt-ltb, le-ltb}
 use Rattle.slices.specs.Slices.{zeros}
 use Rattle.field.specs.Vector.{asVector}
 use Rattle.system.specs.System.{nOf, mOf}
+use Rattle.scheme.specs.declared.Scheme.{Scheme}
+use Rattle.scheme.specs.declared.Scheme.the-variants.{ThreePass, FivePass}
+use Rattle.scheme.specs.Scheme.{hasAlpha}
 use Rattle.exchange.specs.Messages.{lentIn}
-use Rattle.exchange.specs.Card.{threeVectors}
 use Rattle.session_state.specs.State.{nextCount}
 use Rattle.session_state.proofs.States.{count-below}
 use Rattle.card_state.specs.declared.session.CardPhase.{CardPhase}
 use Rattle.card_state.specs.declared.session.CardPhase.the-variants.{Commit, AnswerAlpha, Reply}
 use Rattle.card_state.specs.declared.session.Card.{Card}
-use Rattle.card_state.specs.Card.{phaseNumber, openedCard, closedCard, noLent, cardWith, committedCard, answeredCard, heldLent, nextCard, repliedCard}
-use Rattle.session.specs.Session.{Opening, put, Given, World, cardMoves}
+use Rattle.card_state.specs.Card.{phaseNumber, openedCard, closedCard, noLent, cardWith, behindCommit, keptE1, committedCard, answeredCard, heldLent, nextCard, repliedCard}
+use Rattle.session.specs.Session.{Terms, passes, put, Given, World, cardMoves}
 use Rattle.session.specs.Histories.{IsGiven}
 use Rattle.session.proofs.Logs.{Clear, put-there, put-stays, put-clear, clear-next}
-use Rattle.session.proofs.CarrierHistory.{by-scheme}
 use Rattle.session.proofs.Phases.{same-card-phase}
+use Rattle.session.proofs.Schemes.{by-scheme}
 
-module _ (o : Opening) where
+pub three-behind : (scheme : Scheme) → scheme ≡ ThreePass → behindCommit scheme ≡ Reply
+unfolding behindCommit hasAlpha
+three-behind scheme three = rw three
+
+pub five-behind : (scheme : Scheme) → scheme ≡ FivePass → behindCommit scheme ≡ AnswerAlpha
+unfolding behindCommit hasAlpha
+five-behind scheme five = rw five
+
+module _ (o : Terms) where
   -- ---- the card's sessions
 
   abbrev pub openCard : Card
@@ -39,13 +47,13 @@ module _ (o : Opening) where
   -- in a round for which this was lent, with this system
   unfoldable pub heldCard : List ℕ → CardPhase → ℕ → List ℕ → Card
   heldCard b phase r lent =
-      cardWith openCard phase r (lentIn (nOf b) (mOf b) lent) (cond (eqb (o .scheme) 3) (threeVectors b (asVector (o .secret)) lent .e1) (zeros 96))
+      cardWith openCard phase r (lentIn (nOf b) (mOf b) lent) (keptE1 (passes o) b (asVector (o .secret)) lent)
 
   pub card-opens : openCard ≡ freshCard 0
   unfolding freshCard openedCard cardWith noLent
   card-opens = refl
 
-  pub committed-is : (r : ℕ) (b lent : List ℕ) (phase : CardPhase) → cond (eqb (o .scheme) 3) Reply AnswerAlpha ≡ phase →
+  pub committed-is : (r : ℕ) (b lent : List ℕ) (phase : CardPhase) → behindCommit (passes o) ≡ phase →
       committedCard (freshCard r) b lent ≡ heldCard b phase r lent
   unfolding committedCard freshCard heldCard cardWith openedCard
   committed-is r b lent phase e = ap (λ (p : CardPhase). heldCard b p r lent) e
@@ -71,9 +79,9 @@ module _ (o : Opening) where
 
   pub data CardProgress (g : Given) (card : Card) (r : ℕ) : CardPhase → Type 0 where
     commit-due : card ≡ freshCard r → Clear (g .commitments) r → Clear (g .middles) r → CardProgress g card r Commit
-    alpha-due : (b lent : List ℕ) → card ≡ heldCard b AnswerAlpha r lent → (o .scheme ≡ 3 → ⊥) → IsGiven (g .commitments r) → Clear (g .commitments) (r + 1) → Clear (g .middles) r →
+    alpha-due : (b lent : List ℕ) → card ≡ heldCard b AnswerAlpha r lent → passes o ≡ FivePass → IsGiven (g .commitments r) → Clear (g .commitments) (r + 1) → Clear (g .middles) r →
         CardProgress g card r AnswerAlpha
-    reply-due : (b lent : List ℕ) → card ≡ heldCard b Reply r lent → IsGiven (g .commitments r) → Clear (g .commitments) (r + 1) → (o .scheme ≡ 3) ⊎ IsGiven (g .middles r) →
+    reply-due : (b lent : List ℕ) → card ≡ heldCard b Reply r lent → IsGiven (g .commitments r) → Clear (g .commitments) (r + 1) → (passes o ≡ ThreePass) ⊎ IsGiven (g .middles r) →
         Clear (g .middles) (r + 1) → CardProgress g card r Reply
 
   pub data CardGoes (g : Given) (card : Card) (r : ℕ) : Type 0 where
@@ -126,9 +134,9 @@ module _ (o : Opening) where
       let given : IsGiven (put (g .commitments) r c r) = (c, put-there (g .commitments) r c) in
       let no-more = put-clear (g .commitments) r c no-commitments in
       let next = ap (λ (c : Card). committedCard c b lent) is in
-      by-scheme (o .scheme)
-      (λ three. (Reply, reply-due b lent (next ∙ committed-is r b lent Reply (rw three)) given no-more (inl three) (clear-next _ r no-middles)))
-      (λ other. (AnswerAlpha, alpha-due b lent (next ∙ committed-is r b lent AnswerAlpha (rw (ne-eqb (o .scheme) 3 other))) other given no-more no-middles))
+      by-scheme (passes o)
+      (λ three. (Reply, reply-due b lent (next ∙ committed-is r b lent Reply (three-behind (passes o) three)) given no-more (inl three) (clear-next _ r no-middles)))
+      (λ five. (AnswerAlpha, alpha-due b lent (next ∙ committed-is r b lent AnswerAlpha (five-behind (passes o) five)) five given no-more no-middles))
 
   pub commit-history : (w : World) (b lent c : List ℕ) → CardHistory w → phaseNumber (w .card .phase) ≡ 1 →
       CardHistory (cardMoves w (committedCard (w .card) b lent) (w .history .cardRound) (withCommitments (w .history .given) (w .history .cardRound) c))

@@ -9,12 +9,11 @@ use native.Mathlib.Nat.{eq-or-lt-of-le, le-refl, lt-of-not-le}
 use native.Mathlib.Decide.{decLe}
 use native.Mathlib.Omega.{arith}
 use lib.ListN.{length, take}
-use borrow.Author.Tests.{ne-eqb}
-use Rattle.field.specs.Vector.{allBelow}
+use Rattle.field.specs.Vector.{Elements, allBelow}
 use Rattle.system.specs.System.{qOf, nOf, mOf, systemRefusal}
 use Rattle.system.proofs.SystemLayout.{all-below-at, at-all-below, sizes-has, sizes-true, accepted}
-use Rattle.scheme.specs.Scheme.{challenges, commitmentsLength, replyLength}
-use Rattle.record_form.specs.Record.{Elements}
+use Rattle.scheme.specs.declared.Scheme.the-variants.{FivePass}
+use Rattle.scheme.specs.Scheme.{challenges, drawnLength, commitmentsLength, lentLength, replyLength}
 use Rattle.protocol.specs.Protocols.{cardThree, r1Of, t1Of}
 use Rattle.protocol.specs.Rounds.{mapOf}
 use Rattle.round.specs.ThreePass.{replyThree}
@@ -24,42 +23,48 @@ use Rattle.card_state.specs.declared.session.CardPhase.{CardPhase}
 use Rattle.card_state.specs.declared.session.CardPhase.the-variants.{AnswerAlpha, Reply}
 use Rattle.card_state.specs.declared.session.Card.{Card}
 use Rattle.card_state.specs.Card as CardCalls
-use Rattle.card_state.specs.Card.{phaseNumber, openedCard, closedCard, cardWith, heldLent, heldVectors, committedCard, sentCommitments, answeredCard, sentMiddle, repliedCard, sentReply, commitRefusal, alphaRefusal, replyRefusal}
+use Rattle.card_state.specs.Card.{phaseNumber, cardDomain, openedCard, closedCard, cardWith, heldVectors, keptE1, committedCard, sentCommitments, answeredCard, sentMiddle, repliedCard, replyOf, sentReply, commitRefusal, alphaRefusal, replyRefusal}
 use Rattle.card_state.proofs.Taken.{commit-taken, commit-due, alpha-taken, alpha-due, reply-taken, reply-due}
-use Rattle.session.specs.Session.{Opening, Given, Asked, World, cardMoves}
+use Rattle.session.specs.Session.{Terms, passes, Given, Asked, World, cardMoves}
 use Rattle.session.proofs.Logs.{Clear, put-there, put-stays, put-clear, clear-next, stays-on}
-use Rattle.session.proofs.CarrierHistory.{by-scheme, card-moved}
-use Rattle.session.proofs.CardHistory.{freshCard, heldCard, committed-is, answered-is, replied-next, replied-last, withCommitments, withMiddles, withReplies, CardHistory, commit-history, answer-history, reply-history}
+use Rattle.session.proofs.Schemes.{by-scheme, drawn-is}
+use Rattle.session.proofs.CarrierHistory.{card-moved}
+use Rattle.session.proofs.CardHistory.{three-behind, five-behind, freshCard, heldCard, committed-is, answered-is, replied-next, replied-last, withCommitments, withMiddles, withReplies, CardHistory, commit-history, answer-history, reply-history}
 use Rattle.session.proofs.States as St
 use Rattle.session.proofs.States.{GivenStays, Link, CardState, Past, past-stays, asked-same}
 
-module _ (o : Opening) where
+-- what is lent has elements, as many as the scheme draws
+pub drawn-lends : (o : Terms) (lent : List ℕ) → allBelow (qOf (o .system)) (take (drawnLength (passes o) (nOf (o .system)) (mOf (o .system))) lent) ≡ true →
+    Lends (o .system) lent
+drawn-lends o lent h = rw (drawn-is (passes o) (nOf (o .system)) (mOf (o .system))) at h
+
+module _ (o : Terms) where
   -- ---- what the card sends
 
-  pub sent-commitments-is : (r : ℕ) (lent : List ℕ) → sentCommitments (freshCard o r) (o .system) lent ≡ St.commitmentsOf o lent
-  unfolding sentCommitments St.commitmentsOf freshCard cardWith openedCard
+  pub sent-commitments-is : (r : ℕ) (lent : List ℕ) → sentCommitments (freshCard o r) (o .system) lent ≡ St.givenCommitments o lent
+  unfolding sentCommitments cardDomain freshCard cardWith openedCard
   sent-commitments-is r lent = refl
 
-  pub sent-middle-is : (phase : CardPhase) (r : ℕ) (lent : List ℕ) (α : ℕ) → sentMiddle (heldCard o (o .system) phase r lent) (o .system) α ≡ St.turnOf o lent α
-  unfolding sentMiddle St.turnOf heldCard cardWith openedCard
+  pub sent-middle-is : (phase : CardPhase) (r : ℕ) (lent : List ℕ) (α : ℕ) → sentMiddle (heldCard o (o .system) phase r lent) (o .system) α ≡ St.givenMiddle o lent α
+  unfolding sentMiddle St.givenMiddle heldCard cardWith openedCard
   sent-middle-is phase r lent α = refl
 
-  pub sent-reply-is : (phase : CardPhase) (r : ℕ) (lent : List ℕ) (challenge : ℕ) → sentReply (heldCard o (o .system) phase r lent) challenge ≡ St.replyOf o lent challenge
-  unfolding sentReply St.replyOf heldLent heldVectors heldCard cardWith openedCard threeReplied threeVectors replyThree cardThree r1Of t1Of mapOf
-  sent-reply-is phase r lent challenge = by-scheme (o .scheme) (λ three. simp three) (λ other. simp (ne-eqb (o .scheme) 3 other))
+  pub sent-reply-is : (phase : CardPhase) (r : ℕ) (lent : List ℕ) (challenge : ℕ) → sentReply (heldCard o (o .system) phase r lent) challenge ≡ St.givenReply o lent challenge
+  unfolding sentReply replyOf keptE1 St.replyBytes heldVectors heldCard cardWith openedCard threeReplied threeVectors replyThree cardThree r1Of t1Of mapOf
+  sent-reply-is phase r lent challenge = by-scheme (passes o) (λ three. simp three) (λ five. simp five)
 
   -- ---- the call that is due, by the state
 
   due : {g : Given} {a : Asked} {card : Card} {r : ℕ} → CardState o g a card r → ℕ
   due (St.is-fresh h e c m p) = 1
-  due (St.is-committed lent h other l e c cn m p) = 2
+  due (St.is-committed lent h five l e c cn m p) = 2
   due (St.is-ready lent h l e c cn m mn p) = 3
   due (St.is-over h e p) = 0
 
   due-is : {g : Given} {a : Asked} {card : Card} {r : ℕ} (s : CardState o g a card r) → phaseNumber (card .phase) ≡ due s
   unfolding due phaseNumber freshCard heldCard cardWith closedCard
   due-is (St.is-fresh h e c m p) = ap (λ (k : Card). phaseNumber (k .phase)) e
-  due-is (St.is-committed lent h other l e c cn m p) = ap (λ (k : Card). phaseNumber (k .phase)) e
+  due-is (St.is-committed lent h five l e c cn m p) = ap (λ (k : Card). phaseNumber (k .phase)) e
   due-is (St.is-ready lent h l e c cn m mn p) = ap (λ (k : Card). phaseNumber (k .phase)) e
   due-is (St.is-over h e p) = ap (λ (k : Card). phaseNumber (k .phase)) e
 
@@ -75,10 +80,10 @@ module _ (o : Opening) where
   record Committed (g : Given) (card : Card) (r : ℕ) : Type 0 where
     pub lent : List ℕ
     pub below : r < o .rounds
-    pub five : o .scheme ≡ 3 → ⊥
+    pub five : passes o ≡ FivePass
     pub lends : Lends (o .system) lent
     pub is : card ≡ heldCard o (o .system) AnswerAlpha r lent
-    pub commitments-given : g .commitments r ≡ some (St.commitmentsOf o lent)
+    pub commitments-given : g .commitments r ≡ some (St.givenCommitments o lent)
     pub no-more-commitments : Clear (g .commitments) (r + 1)
     pub no-middles : Clear (g .middles) r
     pub no-replies : Clear (g .replies) r
@@ -88,7 +93,7 @@ module _ (o : Opening) where
     pub below : r < o .rounds
     pub lends : Lends (o .system) lent
     pub is : card ≡ heldCard o (o .system) Reply r lent
-    pub commitments-given : g .commitments r ≡ some (St.commitmentsOf o lent)
+    pub commitments-given : g .commitments r ≡ some (St.givenCommitments o lent)
     pub no-more-commitments : Clear (g .commitments) (r + 1)
     pub middle-given : St.MiddleGiven o g a r lent
     pub no-more-middles : Clear (g .middles) (r + 1)
@@ -104,8 +109,8 @@ module _ (o : Opening) where
   known : {g : Given} {a : Asked} {card : Card} {r : ℕ} (s : CardState o g a card r) → Known g a card r (due s)
   unfolding due Known
   known (St.is-fresh h e c m p) = record { below = h; is = e; no-commitments = c; no-middles = m; no-replies = p }
-  known (St.is-committed lent h other l e c cn m p) =
-      record { lent = lent; below = h; five = other; lends = l; is = e; commitments-given = c; no-more-commitments = cn; no-middles = m; no-replies = p }
+  known (St.is-committed lent h five l e c cn m p) =
+      record { lent = lent; below = h; five = five; lends = l; is = e; commitments-given = c; no-more-commitments = cn; no-middles = m; no-replies = p }
   known (St.is-ready lent h l e c cn m mn p) =
       record { lent = lent; below = h; lends = l; is = e; commitments-given = c; no-more-commitments = cn; middle-given = m; no-more-middles = mn; no-replies = p }
   known (St.is-over h e p) = tt
@@ -137,9 +142,15 @@ module _ (o : Opening) where
 
   -- ---- commit
 
-  lends-of : (card : Card) (r : ℕ) (lent : List ℕ) → card ≡ freshCard o r → allBelow (card .q) (take (card .n + card .n + card .m) lent) ≡ true → Lends (o .system) lent
+  elements-of : (card : Card) (r : ℕ) (lent : List ℕ) → card ≡ freshCard o r →
+      allBelow (card .q) (take (drawnLength (card .scheme) (card .n) (card .m)) lent) ≡ true →
+      allBelow (qOf (o .system)) (take (drawnLength (passes o) (nOf (o .system)) (mOf (o .system))) lent) ≡ true
   unfolding freshCard cardWith openedCard
-  lends-of card r lent e h = rw e at h
+  elements-of card r lent e h = rw e at h
+
+  lends-of : (card : Card) (r : ℕ) (lent : List ℕ) → card ≡ freshCard o r →
+      allBelow (card .q) (take (drawnLength (card .scheme) (card .n) (card .m)) lent) ≡ true → Lends (o .system) lent
+  lends-of card r lent e h = drawn-lends o lent (elements-of card r lent e h)
 
   committed-state : (g : Given) (a : Asked) (card : Card) (r : ℕ) (lent : List ℕ) → Fresh g card r → Lends (o .system) lent →
       CardState o (withCommitments o g r (sentCommitments card (o .system) lent)) a (committedCard card (o .system) lent) r
@@ -148,9 +159,9 @@ module _ (o : Opening) where
       let given = put-there (g .commitments) r c ∙ ap some (ap (λ (k : Card). sentCommitments k (o .system) lent) (f .is) ∙ sent-commitments-is r lent) in
       let clear = put-clear (g .commitments) r c (f .no-commitments) in
       let is = ap (λ (k : Card). committedCard k (o .system) lent) (f .is) in
-      by-scheme (o .scheme)
-      (λ three. St.is-ready lent (f .below) lends (is ∙ committed-is o r (o .system) lent Reply (rw three)) given clear (St.no-middle three) (clear-next (g .middles) r (f .no-middles)) (f .no-replies))
-      (λ other. St.is-committed lent (f .below) other lends (is ∙ committed-is o r (o .system) lent AnswerAlpha (rw (ne-eqb (o .scheme) 3 other))) given clear (f .no-middles) (f .no-replies))
+      by-scheme (passes o)
+      (λ three. St.is-ready lent (f .below) lends (is ∙ committed-is o r (o .system) lent Reply (three-behind (passes o) three)) given clear (St.no-middle three) (clear-next (g .middles) r (f .no-middles)) (f .no-replies))
+      (λ five. St.is-committed lent (f .below) five lends (is ∙ committed-is o r (o .system) lent AnswerAlpha (five-behind (passes o) five)) given clear (f .no-middles) (f .no-replies))
 
   commitments-stay : (g : Given) (r : ℕ) (c : List ℕ) → Clear (g .commitments) r → GivenStays o g (withCommitments o g r c)
   commitments-stay g r c clear = record { commitments-stay = put-stays (g .commitments) r c clear; middles-stay = λ k x e. e; replies-stay = λ k x e. e }
@@ -189,7 +200,7 @@ module _ (o : Opening) where
 
   -- ---- reply
 
-  scheme-kept : (phase : CardPhase) (r : ℕ) (lent : List ℕ) → heldCard o (o .system) phase r lent .scheme ≡ o .scheme
+  scheme-kept : (phase : CardPhase) (r : ℕ) (lent : List ℕ) → heldCard o (o .system) phase r lent .scheme ≡ passes o
   unfolding heldCard cardWith openedCard
   scheme-kept phase r lent = refl
 
@@ -215,7 +226,7 @@ module _ (o : Opening) where
       let k = reply-taken (w .card) challenge out none in
       let f : Ready (w .history .given) (w .history .asked) (w .card) r = known-at _ _ _ _ (l .card-state) 3 (k .due) in
       let g = withReplies o (w .history .given) r (sentReply (w .card) challenge) in
-      let scheme : w .card .scheme ≡ o .scheme = ap (λ (c : Card). c .scheme) (f .is) ∙ scheme-kept Reply r (f .lent) in
+      let scheme : w .card .scheme ≡ passes o = ap (λ (c : Card). c .scheme) (f .is) ∙ scheme-kept Reply r (f .lent) in
       let stays : GivenStays o (w .history .given) g =
       record { commitments-stay = λ k x e. e; middles-stay = λ k x e. e; replies-stay = put-stays (w .history .given .replies) r _ (f .no-replies) } in
       let last : Past o g (w .history .asked) r =
@@ -237,8 +248,8 @@ module _ (o : Opening) where
 
   module _ (good : systemRefusal (o .system) ≡ 0) where
     pub commit-goes : (w : World) (lent : List ℕ) (out : ℕ) → Link o w → phaseNumber (w .card .phase) ≡ 1 →
-        length lent ≡ nOf (o .system) + nOf (o .system) + mOf (o .system) + commitmentsLength (o .scheme) → out ≡ commitmentsLength (o .scheme) →
-        Elements (qOf (o .system)) (take (nOf (o .system) + nOf (o .system) + mOf (o .system)) lent) → commitRefusal (w .card) (o .system) lent out ≡ 0
+        length lent ≡ lentLength (passes o) (nOf (o .system)) (mOf (o .system)) → out ≡ commitmentsLength (passes o) →
+        Elements (qOf (o .system)) (take (drawnLength (passes o) (nOf (o .system)) (mOf (o .system))) lent) → commitRefusal (w .card) (o .system) lent out ≡ 0
     unfolding freshCard cardWith openedCard phaseNumber Known
     commit-goes w lent out l phase long room elements =
         let f : Fresh (w .history .given) (w .card) (w .history .cardRound) = known-at _ _ _ _ (l .card-state) 1 phase in
@@ -256,7 +267,7 @@ module _ (o : Opening) where
         (record { due = refl; good = good; fits = sizes-has (o .system) _ _ _ refl refl refl; room = room; element = element })
 
     pub reply-goes : (w : World) (challenge out : ℕ) → Link o w → phaseNumber (w .card .phase) ≡ 3 →
-        out ≡ replyLength (o .scheme) (nOf (o .system)) (mOf (o .system)) → challenge < challenges (o .scheme) → replyRefusal (w .card) challenge out ≡ 0
+        out ≡ replyLength (passes o) (nOf (o .system)) (mOf (o .system)) → challenge < challenges (passes o) → replyRefusal (w .card) challenge out ≡ 0
     unfolding heldCard cardWith openedCard phaseNumber Known
     reply-goes w challenge out l phase room value =
         let f : Ready (w .history .given) (w .history .asked) (w .card) (w .history .cardRound) = known-at _ _ _ _ (l .card-state) 3 phase in
@@ -268,15 +279,15 @@ module _ (o : Opening) where
   -- ---- a call that is not refused has right lengths, elements and challenge
 
   pub commit-fits : (w : World) (lent : List ℕ) (out : ℕ) → Link o w → commitRefusal (w .card) (o .system) lent out ≡ 0 →
-      (length lent ≡ nOf (o .system) + nOf (o .system) + mOf (o .system) + commitmentsLength (o .scheme)) × (out ≡ commitmentsLength (o .scheme)) ×
-      Elements (qOf (o .system)) (take (nOf (o .system) + nOf (o .system) + mOf (o .system)) lent)
+      (length lent ≡ lentLength (passes o) (nOf (o .system)) (mOf (o .system))) × (out ≡ commitmentsLength (passes o)) ×
+      Elements (qOf (o .system)) (take (drawnLength (passes o) (nOf (o .system)) (mOf (o .system))) lent)
   unfolding freshCard cardWith openedCard Known
   commit-fits w lent out l none =
       let k = commit-taken (w .card) (o .system) lent out none in
       let f : Fresh (w .history .given) (w .card) (w .history .cardRound) = known-at _ _ _ _ (l .card-state) 1 (k .due) in (
-        k .lent-length ∙ ap (λ (c : Card). c .n + c .n + c .m + commitmentsLength (c .scheme)) (f .is),
+        k .lent-length ∙ ap (λ (c : Card). lentLength (c .scheme) (c .n) (c .m)) (f .is),
         k .room ∙ ap (λ (c : Card). commitmentsLength (c .scheme)) (f .is),
-        all-below-at _ _ (lends-of (w .card) (w .history .cardRound) lent (f .is) (k .elements)),
+        all-below-at _ _ (elements-of (w .card) (w .history .cardRound) lent (f .is) (k .elements)),
       )
 
   pub answer-fits : (w : World) (α out : ℕ) → Link o w → alphaRefusal (w .card) (o .system) α out ≡ 0 →
@@ -289,10 +300,10 @@ module _ (o : Opening) where
       (k .room ∙ ap (λ (c : Card). c .n + c .m) (f .is), omega (arith, k .element, q))
 
   pub reply-fits : (w : World) (challenge out : ℕ) → Link o w → replyRefusal (w .card) challenge out ≡ 0 →
-      (out ≡ replyLength (o .scheme) (nOf (o .system)) (mOf (o .system))) × (challenge < challenges (o .scheme))
+      (out ≡ replyLength (passes o) (nOf (o .system)) (mOf (o .system))) × (challenge < challenges (passes o))
   unfolding heldCard cardWith openedCard Known
   reply-fits w challenge out l none =
       let k = reply-taken (w .card) challenge out none in
       let f : Ready (w .history .given) (w .history .asked) (w .card) (w .history .cardRound) = known-at _ _ _ _ (l .card-state) 3 (k .due) in
-      let most : challenges (w .card .scheme) ≡ challenges (o .scheme) = ap (λ (c : Card). challenges (c .scheme)) (f .is) in
+      let most : challenges (w .card .scheme) ≡ challenges (passes o) = ap (λ (c : Card). challenges (c .scheme)) (f .is) in
       (k .room ∙ ap (λ (c : Card). replyLength (c .scheme) (c .n) (c .m)) (f .is), omega (arith, k .value, most))

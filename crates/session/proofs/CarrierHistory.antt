@@ -16,27 +16,48 @@ use Rattle.slices.proofs.Tabulate.{tabulate-at}
 use Rattle.refusal.proofs.Refusals.{first-zero, later-zero, equal-holds}
 use Rattle.field.specs.Vector.{asVector}
 use Rattle.system.specs.System.{nOf, mOf}
-use Rattle.scheme.specs.Scheme.{commitmentsLength}
-use Rattle.exchange.specs.Messages.{accepts}
-use Rattle.exchange.proofs.ReadBack.{same-verdict, reads-vector, reads-tabulate}
+use Rattle.scheme.specs.declared.Scheme.{Scheme}
+use Rattle.scheme.specs.declared.Scheme.the-variants.{ThreePass, FivePass}
+use Rattle.scheme.specs.Scheme.{hasAlpha, commitmentsLength}
+use Rattle.commitment.specs.declared.Domain.{Domain}
+use Rattle.exchange.specs.Messages.{openings, accepts}
+use Rattle.exchange.proofs.ReadBack.{same-verdict, reads-tabulate}
 use Rattle.session_state.specs.State.{nextCount}
 use Rattle.session_state.specs.declared.Verdict.the-variants.{Accepted, Rejected}
 use Rattle.session_state.proofs.States.{state-due, count-below}
 use Rattle.carrier_state.specs.declared.session.CarrierPhase.{CarrierPhase}
 use Rattle.carrier_state.specs.declared.session.CarrierPhase.the-variants.{TakeCommitments, SetAlpha, TakeMiddle, SetChallenge, TakeReply}
 use Rattle.carrier_state.specs.declared.session.Carrier.{Carrier}
-use Rattle.carrier_state.specs.Carrier.{phaseNumber, closedCarrier, carrierWith, heldTurn, openedCarrier, commitmentsRefusal, withCommitments, alphaRefusal, withAlpha, middleRefusal, withMiddle, challengeRefusal, withChallenge, replyRefusal, acceptsReply, judgedCarrier}
-use Rattle.session.specs.Session.{Opening, Log, put, Asked, Taken, Judgement, History, World, carrierMoves}
-use Rattle.session.specs.Histories.{Middle, none-sent, sent, JudgedByCheck}
+use Rattle.carrier_state.specs.Carrier.{phaseNumber, carrierDomain, closedCarrier, carrierWith, heldCommitments, heldTurn, openedCarrier, commitmentsRefusal, behindCommitments, withCommitments, alphaRefusal, withAlpha, middleRefusal, withMiddle, challengeRefusal, withChallenge, replyRefusal, acceptsReply, judgedCarrier}
+use Rattle.session.specs.Session.{Terms, passes, domainOf, Log, put, Asked, Taken, Judgement, History, World, carrierMoves}
+use Rattle.session.specs.Histories.{Turn, JudgedByCheck}
 use Rattle.session.proofs.Logs.{Clear, Stays, same-message, put-there, put-other, put-stays, put-clear, clear-next}
 use Rattle.session.proofs.Phases.{same-carrier-phase}
+use Rattle.session.proofs.Schemes.{by-scheme, few-commitments}
 
-pub by-scheme : {P : Type 0} (scheme : ℕ) → (scheme ≡ 3 → P) → ((scheme ≡ 3 → ⊥) → P) → P
-by-scheme {P = P} scheme three other = go (eqb scheme 3) refl
-  where
-    go : (t : Bool) → eqb scheme 3 ≡ t → P
-    go true e = three (eqb-true scheme 3 e)
-    go false e = other (eqb-false scheme 3 e)
+-- what stands between commitments and challenge stays
+pub turn-within : (scheme : Scheme) (alphas alphas′ : Log ℕ) (middles middles′ : Log (List ℕ)) (r : ℕ) (l : List ℕ) → Stays alphas alphas′ →
+    Stays middles middles′ → Turn scheme alphas middles r l → Turn scheme alphas′ middles′ r l
+unfolding Turn
+turn-within ThreePass alphas alphas′ middles middles′ r l hα hm e = e
+turn-within FivePass alphas alphas′ middles middles′ r l hα hm (α, k, eα, em, e) = (α, k, hα r α eα, hm r k em, e)
+
+-- nothing in three passes, α and t1 and e1 in five
+no-turn : (alphas : Log ℕ) (middles : Log (List ℕ)) (r : ℕ) → Turn ThreePass alphas middles r []
+unfolding Turn
+no-turn alphas middles r = refl
+
+full-turn : (alphas : Log ℕ) (middles : Log (List ℕ)) (r α : ℕ) (l : List ℕ) → alphas r ≡ some α → middles r ≡ some l → Turn FivePass alphas middles r (α ∷ l)
+unfolding Turn
+full-turn alphas middles r α l set taken = (α, l, set, taken, refl)
+
+pub three-behind : (scheme : Scheme) → scheme ≡ ThreePass → behindCommitments scheme ≡ SetChallenge
+unfolding behindCommitments hasAlpha
+three-behind scheme three = rw three
+
+pub five-behind : (scheme : Scheme) → scheme ≡ FivePass → behindCommitments scheme ≡ SetAlpha
+unfolding behindCommitments hasAlpha
+five-behind scheme five = rw five
 
 -- ---- what was answered
 
@@ -58,23 +79,23 @@ pub put-accepted : (judged : Log Judgement) (r : ℕ) (j : Judgement) → AllAcc
 put-accepted judged r j all is-true k h =
     ⊎-elim (λ (same : k ≡ r). (j, rw same (put-there judged r j), is-true)) (λ (below : k < r). before-put judged r j all k below) (eq-or-lt-of-le (omega arith))
 
-module _ (o : Opening) where
+module _ (o : Terms) where
   -- ---- the carrier's sessions
 
   abbrev pub openCarrier : Carrier
   openCarrier = openedCarrier (o .system) (o .scheme) (o .rounds) (o .key)
 
   unfoldable pub carrierAt : CarrierPhase → ℕ → List ℕ → List ℕ → ℕ → Carrier
-  carrierAt phase r commitments middle challenge = carrierWith openCarrier phase r commitments middle challenge
+  carrierAt phase r commitments turn challenge = carrierWith openCarrier phase r commitments turn challenge
 
-  pub carrier-opens : openCarrier ≡ carrierAt TakeCommitments 0 (zeros 96) (zeros 193) 0
+  pub carrier-opens : openCarrier ≡ carrierAt TakeCommitments 0 (heldCommitments []) (zeros 193) 0
   unfolding carrierAt carrierWith openedCarrier
   carrier-opens = refl
 
-  pub took-commitments : (r : ℕ) (c : List ℕ) (phase : CarrierPhase) → cond (eqb (o .scheme) 3) SetChallenge SetAlpha ≡ phase →
-      withCommitments (carrierAt TakeCommitments r (zeros 96) (zeros 193) 0) c ≡ carrierAt phase r (asVector c) (zeros 193) 0
+  pub took-commitments : (r : ℕ) (c : List ℕ) (phase : CarrierPhase) → behindCommitments (passes o) ≡ phase →
+      withCommitments (carrierAt TakeCommitments r (heldCommitments []) (zeros 193) 0) c ≡ carrierAt phase r (heldCommitments c) (zeros 193) 0
   unfolding withCommitments carrierAt carrierWith openedCarrier
-  took-commitments r c phase e = ap (λ (p : CarrierPhase). carrierAt p r (asVector c) (zeros 193) 0) e
+  took-commitments r c phase e = ap (λ (p : CarrierPhase). carrierAt p r (heldCommitments c) (zeros 193) 0) e
 
   took-alpha : (r : ℕ) (c m : List ℕ) (α : ℕ) → withAlpha (carrierAt SetAlpha r c m 0) α ≡ carrierAt TakeMiddle r c (heldTurn α []) 0
   unfolding withAlpha carrierAt carrierWith openedCarrier
@@ -94,7 +115,7 @@ module _ (o : Opening) where
   took-challenge r c m challenge = refl
 
   pub judged-next : (r : ℕ) (c m : List ℕ) (challenge : ℕ) → r + 1 < o .rounds → o .rounds < 256 →
-      judgedCarrier (carrierAt TakeReply r c m challenge) true ≡ carrierAt TakeCommitments (r + 1) (zeros 96) (zeros 193) 0
+      judgedCarrier (carrierAt TakeReply r c m challenge) true ≡ carrierAt TakeCommitments (r + 1) (heldCommitments []) (zeros 193) 0
   unfolding judgedCarrier carrierAt carrierWith openedCarrier
   judged-next r c m challenge more small =
       let count : nextCount r ≡ r + 1 = count-below r (o .rounds) (omega arith) small in
@@ -123,24 +144,24 @@ module _ (o : Opening) where
 
   pub record CommitmentsTaken (t : Taken) (r : ℕ) (c : List ℕ) : Type 0 where
     pub taken : t .commitments r ≡ some c
-    pub long : length c ≡ commitmentsLength (o .scheme)
+    pub long : length c ≡ commitmentsLength (passes o)
 
   -- what the carrier holds between commitments and challenge
-  pub data MiddleHeld (a : Asked) (t : Taken) (r : ℕ) (m : List ℕ) : Type 0 where
-    none-held : o .scheme ≡ 3 → MiddleHeld a t r m
-    middle-held : (o .scheme ≡ 3 → ⊥) → (α : ℕ) (l : List ℕ) → a .alphas r ≡ some α → t .middles r ≡ some l → length l ≡ nOf (o .system) + mOf (o .system) →
-        m ≡ heldTurn α l → MiddleHeld a t r m
+  pub data TurnHeld (a : Asked) (t : Taken) (r : ℕ) (turn : List ℕ) : Type 0 where
+    none-held : passes o ≡ ThreePass → TurnHeld a t r turn
+    turn-held : passes o ≡ FivePass → (α : ℕ) (l : List ℕ) → a .alphas r ≡ some α → t .middles r ≡ some l → length l ≡ nOf (o .system) + mOf (o .system) →
+        turn ≡ heldTurn α l → TurnHeld a t r turn
 
   pub data Progress (a : Asked) (t : Taken) (carrier : Carrier) (r : ℕ) : CarrierPhase → Type 0 where
-    commitments-due : carrier ≡ carrierAt TakeCommitments r (zeros 96) (zeros 193) 0 → ClearFrom a t r r r r → Progress a t carrier r TakeCommitments
-    alpha-due : (c : List ℕ) → (o .scheme ≡ 3 → ⊥) → CommitmentsTaken t r c → carrier ≡ carrierAt SetAlpha r (asVector c) (zeros 193) 0 →
+    commitments-due : carrier ≡ carrierAt TakeCommitments r (heldCommitments []) (zeros 193) 0 → ClearFrom a t r r r r → Progress a t carrier r TakeCommitments
+    alpha-due : (c : List ℕ) → passes o ≡ FivePass → CommitmentsTaken t r c → carrier ≡ carrierAt SetAlpha r (heldCommitments c) (zeros 193) 0 →
         ClearFrom a t (r + 1) r r r → Progress a t carrier r SetAlpha
-    middle-due : (c : List ℕ) (α : ℕ) → (o .scheme ≡ 3 → ⊥) → CommitmentsTaken t r c → a .alphas r ≡ some α →
-        carrier ≡ carrierAt TakeMiddle r (asVector c) (heldTurn α []) 0 → ClearFrom a t (r + 1) (r + 1) r r → Progress a t carrier r TakeMiddle
-    challenge-due : (c m : List ℕ) → CommitmentsTaken t r c → MiddleHeld a t r m → carrier ≡ carrierAt SetChallenge r (asVector c) m 0 →
+    middle-due : (c : List ℕ) (α : ℕ) → passes o ≡ FivePass → CommitmentsTaken t r c → a .alphas r ≡ some α →
+        carrier ≡ carrierAt TakeMiddle r (heldCommitments c) (heldTurn α []) 0 → ClearFrom a t (r + 1) (r + 1) r r → Progress a t carrier r TakeMiddle
+    challenge-due : (c m : List ℕ) → CommitmentsTaken t r c → TurnHeld a t r m → carrier ≡ carrierAt SetChallenge r (heldCommitments c) m 0 →
         ClearFrom a t (r + 1) (r + 1) (r + 1) r → Progress a t carrier r SetChallenge
-    reply-due : (c m : List ℕ) (challenge : ℕ) → CommitmentsTaken t r c → MiddleHeld a t r m → a .challenges r ≡ some challenge →
-        carrier ≡ carrierAt TakeReply r (asVector c) m challenge → ClearFrom a t (r + 1) (r + 1) (r + 1) (r + 1) → Progress a t carrier r TakeReply
+    reply-due : (c m : List ℕ) (challenge : ℕ) → CommitmentsTaken t r c → TurnHeld a t r m → a .challenges r ≡ some challenge →
+        carrier ≡ carrierAt TakeReply r (heldCommitments c) m challenge → ClearFrom a t (r + 1) (r + 1) (r + 1) (r + 1) → Progress a t carrier r TakeReply
 
   pub data CarrierState (a : Asked) (t : Taken) (j : Log Judgement) (carrier : Carrier) (r : ℕ) : Type 0 where
     going : (p : CarrierPhase) → r < o .rounds → AllAccepted j r → Progress a t carrier r p → CarrierState a t j carrier r
@@ -159,8 +180,8 @@ module _ (o : Opening) where
   progress-is (commitments-due e clear) = (_, _, _, e)
   progress-is (alpha-due c five taken e clear) = (_, _, _, e)
   progress-is (middle-due c α five taken set e clear) = (_, _, _, e)
-  progress-is (challenge-due c m taken middle e clear) = (_, _, _, e)
-  progress-is (reply-due c m challenge taken middle set e clear) = (_, _, _, e)
+  progress-is (challenge-due c m taken turn e clear) = (_, _, _, e)
+  progress-is (reply-due c m challenge taken turn set e clear) = (_, _, _, e)
 
   module _ {a : Asked} {t : Taken} {carrier : Carrier} {r : ℕ} {p : CarrierPhase} (progress : Progress a t carrier r p) where
     pub progress-phase : carrier .phase ≡ p
@@ -171,7 +192,7 @@ module _ (o : Opening) where
     unfolding carrierAt carrierWith
     progress-count = ap (λ (c : Carrier). c .accepted) (progress-is progress .3)
 
-    scheme-kept : carrier .scheme ≡ o .scheme
+    scheme-kept : carrier .scheme ≡ passes o
     unfolding carrierAt carrierWith openedCarrier
     scheme-kept = ap (λ (c : Carrier). c .scheme) (progress-is progress .3)
 
@@ -184,8 +205,8 @@ module _ (o : Opening) where
   progress-open (commitments-due e clear) none = absurd (omega arith)
   progress-open (alpha-due c five taken e clear) none = absurd (omega arith)
   progress-open (middle-due c α five taken set e clear) none = absurd (omega arith)
-  progress-open (challenge-due c m taken middle e clear) none = absurd (omega arith)
-  progress-open (reply-due c m challenge taken middle set e clear) none = absurd (omega arith)
+  progress-open (challenge-due c m taken turn e clear) none = absurd (omega arith)
+  progress-open (reply-due c m challenge taken turn set e clear) none = absurd (omega arith)
 
   pub closed-phase : {carrier : Carrier} (verdict : _) (count : ℕ) → carrier ≡ closedCarrier verdict count → phaseNumber (carrier .phase) ≡ 0
   unfolding closedCarrier phaseNumber
@@ -214,21 +235,16 @@ module _ (o : Opening) where
     pub challenges-stay : Stays (old .asked .challenges) (new .asked .challenges)
     pub judged-stay : Stays (old .judged) (new .judged)
 
-  pub middle-within : (alphas alphas′ : Log ℕ) (middles middles′ : Log (List ℕ)) (r : ℕ) (l : List ℕ) → Stays alphas alphas′ → Stays middles middles′ →
-      Middle o alphas middles r l → Middle o alphas′ middles′ r l
-  middle-within alphas alphas′ middles middles′ r l hα hm (none-sent three) = none-sent three
-  middle-within alphas alphas′ middles middles′ r l hα hm (sent other α k eα em) = sent other α k (hα r α eα) (hm r k em)
-
   check-stays : (old new : History) (k : ℕ) → CarrierStays old new → JudgedByCheck o old k → JudgedByCheck o new k
   check-stays old new k s x =
       record {
         commitments = x .commitments;
-        middle = x .middle;
+        turn = x .turn;
         challenge = x .challenge;
         system = x .system;
         reply = x .reply;
         commitments-taken = s .commitments-stay k _ (x .commitments-taken);
-        middle-taken = middle-within _ _ _ _ k _ (s .alphas-stay) (s .middles-stay) (x .middle-taken);
+        turn-taken = turn-within _ _ _ _ _ k _ (s .alphas-stay) (s .middles-stay) (x .turn-taken);
         challenge-set = s .challenges-stay k _ (x .challenge-set);
         answer = x .answer;
         reply-judged = s .judged-stay k _ (x .reply-judged);
@@ -268,16 +284,16 @@ module _ (o : Opening) where
       carrierMoves w (withCommitments (w .carrier) c) (h .carrierRound) (h .asked)
       (record { commitments = put (h .taken .commitments) (h .carrierRound) c; middles = h .taken .middles }) (h .judged)
 
-  begun : (a : Asked) (t : Taken) (carrier : Carrier) (r : ℕ) (c : List ℕ) → length c ≡ commitmentsLength (o .scheme) → Progress a t carrier r TakeCommitments →
+  begun : (a : Asked) (t : Taken) (carrier : Carrier) (r : ℕ) (c : List ℕ) → length c ≡ commitmentsLength (passes o) → Progress a t carrier r TakeCommitments →
       (p : CarrierPhase) × Progress a (record { commitments = put (t .commitments) r c; middles = t .middles }) (withCommitments carrier c) r p
   begun a t carrier r c long (commitments-due e clear) =
       let is = ap (λ (k : Carrier). withCommitments k c) e in
       let no-more = put-clear (t .commitments) r c (clear .no-commitments) in
       let taken : CommitmentsTaken (record { commitments = put (t .commitments) r c; middles = t .middles }) r c = record { taken = put-there (t .commitments) r c; long = long } in
-      by-scheme (o .scheme)
+      by-scheme (passes o)
       (λ three. (
         SetChallenge,
-        challenge-due c (zeros 193) taken (none-held three) (is ∙ took-commitments r c SetChallenge (rw three))
+        challenge-due c (zeros 193) taken (none-held three) (is ∙ took-commitments r c SetChallenge (three-behind (passes o) three))
             (record {
               no-commitments = no-more;
               no-alphas = clear-next _ r (clear .no-alphas);
@@ -285,9 +301,9 @@ module _ (o : Opening) where
               no-challenges = clear .no-challenges;
             }),
       ))
-      (λ other. (
+      (λ five. (
         SetAlpha,
-        alpha-due c other taken (is ∙ took-commitments r c SetAlpha (rw (ne-eqb (o .scheme) 3 other)))
+        alpha-due c five taken (is ∙ took-commitments r c SetAlpha (five-behind (passes o) five))
             (record { no-commitments = no-more; no-alphas = clear .no-alphas; no-middles = clear .no-middles; no-challenges = clear .no-challenges }),
       ))
 
@@ -328,7 +344,7 @@ module _ (o : Opening) where
   with-alpha : (a : Asked) (t : Taken) (carrier : Carrier) (r α : ℕ) → Progress a t carrier r SetAlpha →
       Progress (withAlphas a r α) t (withAlpha carrier α) r TakeMiddle
   with-alpha a t carrier r α (alpha-due c five taken e clear) =
-      middle-due c α five taken (put-there (a .alphas) r α) (ap (λ (k : Carrier). withAlpha k α) e ∙ took-alpha r (asVector c) (zeros 193) α)
+      middle-due c α five taken (put-there (a .alphas) r α) (ap (λ (k : Carrier). withAlpha k α) e ∙ took-alpha r (heldCommitments c) (zeros 193) α)
       (record {
         no-commitments = clear .no-commitments;
         no-alphas = put-clear (a .alphas) r α (clear .no-alphas);
@@ -367,7 +383,7 @@ module _ (o : Opening) where
       Progress a t carrier r TakeMiddle → Progress a (record { commitments = t .commitments; middles = put (t .middles) r l }) (withMiddle carrier l) r SetChallenge
   with-middle a t carrier r l long (middle-due c α five taken set e clear) =
       challenge-due c (heldTurn α l) (record { taken = taken .taken; long = taken .long })
-      (middle-held five α l set (put-there (t .middles) r l) long refl) (ap (λ (k : Carrier). withMiddle k l) e ∙ took-middle r (asVector c) α l)
+      (turn-held five α l set (put-there (t .middles) r l) long refl) (ap (λ (k : Carrier). withMiddle k l) e ∙ took-middle r (heldCommitments c) α l)
       (record {
         no-commitments = clear .no-commitments;
         no-alphas = clear .no-alphas;
@@ -403,17 +419,17 @@ module _ (o : Opening) where
       carrierMoves w (withChallenge (w .carrier) challenge) (h .carrierRound) (withChallenges (h .asked) (h .carrierRound) challenge) (h .taken) (h .judged)
 
   pub no-challenge-yet : (a : Asked) (t : Taken) (carrier : Carrier) (r : ℕ) → Progress a t carrier r SetChallenge → Clear (a .challenges) r
-  no-challenge-yet a t carrier r (challenge-due c m taken middle e clear) = clear .no-challenges
+  no-challenge-yet a t carrier r (challenge-due c m taken turn e clear) = clear .no-challenges
 
-  still-held : (a : Asked) (t : Taken) (r challenge : ℕ) (m : List ℕ) → MiddleHeld a t r m → MiddleHeld (withChallenges a r challenge) t r m
+  still-held : (a : Asked) (t : Taken) (r challenge : ℕ) (m : List ℕ) → TurnHeld a t r m → TurnHeld (withChallenges a r challenge) t r m
   still-held a t r challenge m (none-held three) = none-held three
-  still-held a t r challenge m (middle-held five α l set taken long e) = middle-held five α l set taken long e
+  still-held a t r challenge m (turn-held five α l set taken long e) = turn-held five α l set taken long e
 
   with-challenge : (a : Asked) (t : Taken) (carrier : Carrier) (r challenge : ℕ) → Progress a t carrier r SetChallenge →
       Progress (withChallenges a r challenge) t (withChallenge carrier challenge) r TakeReply
-  with-challenge a t carrier r challenge (challenge-due c m taken middle e clear) =
-      reply-due c m challenge taken (still-held a t r challenge m middle) (put-there (a .challenges) r challenge)
-      (ap (λ (k : Carrier). withChallenge k challenge) e ∙ took-challenge r (asVector c) m challenge)
+  with-challenge a t carrier r challenge (challenge-due c m taken turn e clear) =
+      reply-due c m challenge taken (still-held a t r challenge m turn) (put-there (a .challenges) r challenge)
+      (ap (λ (k : Carrier). withChallenge k challenge) e ∙ took-challenge r (heldCommitments c) m challenge)
       (record {
         no-commitments = clear .no-commitments;
         no-alphas = clear .no-alphas;
@@ -445,61 +461,63 @@ module _ (o : Opening) where
     pub few : o .rounds < 256
     pub small : nOf (o .system) + mOf (o .system) ≤ 192
 
-  few-commitments : commitmentsLength (o .scheme) ≤ 96
-  unfolding commitmentsLength
-  few-commitments = by-scheme (o .scheme) (λ three. rw three (omega arith)) (λ other. rw (ne-eqb (o .scheme) 3 other) (omega arith))
-
-  no-middle-read : (b v c m m′ : List ℕ) (challenge : ℕ) (reply : List ℕ) → accepts b 3 v c m challenge reply ≡ accepts b 3 v c m′ challenge reply
-  unfolding accepts
-  no-middle-read b v c m m′ challenge reply = refl
+  no-turn-read : (b : List ℕ) (d : Domain) (v c m m′ : List ℕ) (challenge : ℕ) (reply : List ℕ) → d .scheme ≡ ThreePass →
+      accepts b d v c m challenge reply ≡ accepts b d v c m′ challenge reply
+  unfolding accepts openings
+  no-turn-read b d v c m m′ challenge reply three = rw three
 
   -- the messages of a round whose reply is due, and that its judgement is the scheme's check of them
   pub record Checked (a : Asked) (t : Taken) (carrier : Carrier) (r : ℕ) (b reply : List ℕ) : Type 0 where
     pub commitments : List ℕ
-    pub middle : List ℕ
+    pub turn : List ℕ
     pub challenge : ℕ
     pub commitments-taken : t .commitments r ≡ some commitments
-    pub middle-taken : Middle o (a .alphas) (t .middles) r middle
+    pub turn-taken : Turn (passes o) (a .alphas) (t .middles) r turn
     pub challenge-set : a .challenges r ≡ some challenge
-    pub verdict : acceptsReply carrier b reply ≡ accepts b (o .scheme) (asVector (o .key)) commitments middle challenge reply
+    pub verdict : acceptsReply carrier b reply ≡ accepts b (domainOf o) (asVector (o .key)) commitments turn challenge reply
 
   held-verdict : (phase : CarrierPhase) (r : ℕ) (c m : List ℕ) (challenge : ℕ) (b reply : List ℕ) →
-      acceptsReply (carrierAt phase r c m challenge) b reply ≡ accepts b (o .scheme) (asVector (o .key)) c m challenge reply
-  unfolding acceptsReply carrierAt carrierWith openedCarrier
+      acceptsReply (carrierAt phase r c m challenge) b reply ≡ accepts b (domainOf o) (asVector (o .key)) c m challenge reply
+  unfolding acceptsReply carrierDomain carrierAt carrierWith openedCarrier
   held-verdict phase r c m challenge b reply = refl
 
   held-reads : (α : ℕ) (l : List ℕ) → length (α ∷ l) ≤ 193 → (i : ℕ) → heldTurn α l ! i ≡ (α ∷ l) ! i
   unfolding heldTurn
   held-reads α l room = reads-tabulate 193 (α ∷ l) room
 
+  commitments-read : (c : List ℕ) → length c ≡ commitmentsLength (passes o) → (i : ℕ) → heldCommitments c ! i ≡ c ! i
+  unfolding heldCommitments
+  commitments-read c long = reads-tabulate 96 c (omega (arith, long, few-commitments (passes o)))
+
   module _ (k : CarrierOpens) where
-    middle-read : (a : Asked) (t : Taken) (r : ℕ) (c m : List ℕ) (challenge : ℕ) (b reply : List ℕ) → length c ≡ commitmentsLength (o .scheme) → MiddleHeld a t r m →
-        (l : List ℕ) × Middle o (a .alphas) (t .middles) r l ×
-        (accepts b (o .scheme) (asVector (o .key)) (asVector c) m challenge reply ≡ accepts b (o .scheme) (asVector (o .key)) c l challenge reply)
-    middle-read a t r c m challenge b reply long (none-held three) =
-        let reads = reads-vector c (omega (arith, few-commitments)) in (
-          [],
-          none-sent three,
-          rw three (same-verdict b 3 (asVector (o .key)) (asVector c) c m m challenge reply reads (λ i. refl) ∙ no-middle-read b (asVector (o .key)) c m [] challenge reply),
-        )
-    middle-read a t r c m challenge b reply long (middle-held five α l set taken size e) =
-        let reads = reads-vector c (omega (arith, few-commitments)) in (
-          α ∷ l,
-          sent five α l set taken,
-          rw e (same-verdict b (o .scheme) (asVector (o .key)) (asVector c) c (heldTurn α l) (α ∷ l) challenge reply reads (held-reads α l (omega (arith, k .small)))),
-        )
+    turn-read : (a : Asked) (t : Taken) (r : ℕ) (c m : List ℕ) (challenge : ℕ) (b reply : List ℕ) → length c ≡ commitmentsLength (passes o) → TurnHeld a t r m →
+        (l : List ℕ) × Turn (passes o) (a .alphas) (t .middles) r l ×
+        (accepts b (domainOf o) (asVector (o .key)) (heldCommitments c) m challenge reply ≡ accepts b (domainOf o) (asVector (o .key)) c l challenge reply)
+    turn-read a t r c m challenge b reply long (none-held three) = (
+      [],
+      subst (λ (s : Scheme). Turn s (a .alphas) (t .middles) r []) (sym three) (no-turn (a .alphas) (t .middles) r),
+      same-verdict b (domainOf o) (asVector (o .key)) (heldCommitments c) c m m challenge reply (commitments-read c long) (λ i. refl) ∙
+      no-turn-read b (domainOf o) (asVector (o .key)) c m [] challenge reply three,
+    )
+    turn-read a t r c m challenge b reply long (turn-held five α l set taken size e) = (
+      α ∷ l,
+      subst (λ (s : Scheme). Turn s (a .alphas) (t .middles) r (α ∷ l)) (sym five) (full-turn (a .alphas) (t .middles) r α l set taken),
+      rw e
+      (same-verdict b (domainOf o) (asVector (o .key)) (heldCommitments c) c (heldTurn α l) (α ∷ l) challenge reply (commitments-read c long)
+      (held-reads α l (omega (arith, k .small)))),
+    )
 
     checks : (a : Asked) (t : Taken) (carrier : Carrier) (r : ℕ) (b reply : List ℕ) → Progress a t carrier r TakeReply → Checked a t carrier r b reply
-    checks a t carrier r b reply (reply-due c m challenge taken middle set e clear) =
-        let (l, is, same) = middle-read a t r c m challenge b reply (taken .long) middle in
+    checks a t carrier r b reply (reply-due c m challenge taken turn set e clear) =
+        let (l, is, same) = turn-read a t r c m challenge b reply (taken .long) turn in
         record {
           commitments = c;
-          middle = l;
+          turn = l;
           challenge = challenge;
           commitments-taken = taken .taken;
-          middle-taken = is;
+          turn-taken = is;
           challenge-set = set;
-          verdict = ap (λ (x : Carrier). acceptsReply x b reply) e ∙ held-verdict TakeReply r (asVector c) m challenge b reply ∙ same;
+          verdict = ap (λ (x : Carrier). acceptsReply x b reply) e ∙ held-verdict TakeReply r (heldCommitments c) m challenge b reply ∙ same;
         }
 
     pub reply-checked : (w : World) (b reply : List ℕ) → CarrierHistory w → replyRefusal (w .carrier) b reply ≡ 0 →
@@ -525,18 +543,18 @@ module _ (o : Opening) where
         below = f .below
 
         go : Progress a t carrier r TakeReply → (answer : Bool) → x .answer ≡ answer → CarrierState a t (put j r x) (judgedCarrier carrier answer) (r + 1)
-        go (reply-due c m challenge taken middle set e clear) false is-false =
+        go (reply-due c m challenge taken turn set e clear) false is-false =
             rejected r refl below (before-put j r x (f .all-accepted)) (x, put-there j r x, is-false)
-            (ap (λ (y : Carrier). judgedCarrier y false) e ∙ judged-rejected r (asVector c) m challenge)
-        go (reply-due c m challenge taken middle set e clear) true is-true =
+            (ap (λ (y : Carrier). judgedCarrier y false) e ∙ judged-rejected r (heldCommitments c) m challenge)
+        go (reply-due c m challenge taken turn set e clear) true is-true =
             let all = put-accepted j r x (f .all-accepted) is-true in
             let is = ap (λ (y : Carrier). judgedCarrier y true) e in
             elim (decLe (o .rounds) (r + 1)) [
-              | yes last ↦ accepted (omega (arith, below, last)) all (is ∙ judged-last r (asVector c) m challenge below last (k .few))
+              | yes last ↦ accepted (omega (arith, below, last)) all (is ∙ judged-last r (heldCommitments c) m challenge below last (k .few))
               | no more ↦
                   let next = lt-of-not-le more in
                   going TakeCommitments next all
-                  (commitments-due (is ∙ judged-next r (asVector c) m challenge next (k .few))
+                  (commitments-due (is ∙ judged-next r (heldCommitments c) m challenge next (k .few))
                   (record {
                     no-commitments = clear .no-commitments;
                     no-alphas = clear .no-alphas;
@@ -564,12 +582,12 @@ module _ (o : Opening) where
         let last : JudgedByCheck o (replyTaken w b reply .history) r =
         record {
           commitments = seen .commitments;
-          middle = seen .middle;
+          turn = seen .turn;
           challenge = seen .challenge;
           system = b;
           reply = reply;
           commitments-taken = seen .commitments-taken;
-          middle-taken = seen .middle-taken;
+          turn-taken = seen .turn-taken;
           challenge-set = seen .challenge-set;
           answer = y .answer;
           reply-judged = put-there j r y;

@@ -10,23 +10,22 @@ use lib.Dec.{ltb}
 use lib.ListN.{length, take}
 use borrow.Author.Tests.{eq-eqb, lt-ltb, ltb-true}
 use Rattle.refusal.proofs.Refusals.{first-zero, later-zero, test-holds, equal-holds, both-zero, unless-holds}
-use Rattle.field.specs.Vector.{allBelow}
+use Rattle.field.specs.Vector.{Elements, allBelow}
 use Rattle.system.specs.System.{qOf, nOf, mOf, systemRefusal, systemAgainst}
 use Rattle.system.proofs.SystemLayout.{all-below-at, at-all-below, sizes-has}
 use Rattle.scheme.specs.Scheme.{challenges, commitmentsLength, vectorsLength, replyLength}
-use Rattle.record_form.specs.Record.{Elements}
 use Rattle.session_state.proofs.States.{state-due, due-state}
 use Rattle.carrier_state.specs.declared.session.CarrierPhase.{CarrierPhase}
 use Rattle.carrier_state.specs.declared.session.CarrierPhase.the-variants.{TakeCommitments, SetAlpha, TakeMiddle, SetChallenge, TakeReply}
 use Rattle.carrier_state.specs.declared.session.Carrier.{Carrier}
 use Rattle.carrier_state.specs.Carrier.{phaseNumber, carrierWith, openedCarrier, commitmentsRefusal, alphaRefusal, middleRefusal, challengeRefusal, replyRefusal}
-use Rattle.session.specs.Session.{Opening, Asked, Taken, World, carrierMoves}
+use Rattle.session.specs.Session.{Terms, passes, Asked, Taken, World, carrierMoves}
 use Rattle.session.proofs.Logs.{put-stays, put-within, given-before}
 use Rattle.session.proofs.CarrierHistory.{carrierAt, CarrierHistory, AllAccepted, at-phase, progress-is, takenCommitments, alphaSet, middleTaken, challengeSet, no-alpha-yet, no-challenge-yet, commitments-history, alpha-history, middle-history, challenge-history}
 use Rattle.session.proofs.States as St
 use Rattle.session.proofs.States.{AskedStays, TakenGiven, Link, past-stays, card-stays, given-same, asked-same}
 
-module _ (o : Opening) where
+module _ (o : Terms) where
   -- ---- a call of the carrier leaves the ends linked
 
   pub moved : (w : World) (carrier : Carrier) (r : ℕ) (a : Asked) (t : Taken) (j : _) → Link o w → CarrierHistory o (carrierMoves w carrier r a t j) →
@@ -93,12 +92,12 @@ module _ (o : Opening) where
       (c : List ℕ) × (m : List ℕ) × (challenge : ℕ) × (w .carrier ≡ carrierAt o p (w .history .carrierRound) c m challenge)
   is-at w l p nonzero phase = progress-is o (at-phase o (l .carrier-history .state) p nonzero phase .progress)
 
-  pub commitments-go : (w : World) (c : List ℕ) → Link o w → phaseNumber (w .carrier .phase) ≡ 1 → length c ≡ commitmentsLength (o .scheme) →
+  pub commitments-go : (w : World) (c : List ℕ) → Link o w → phaseNumber (w .carrier .phase) ≡ 1 → length c ≡ commitmentsLength (passes o) →
       commitmentsRefusal (w .carrier) c ≡ 0
   unfolding commitmentsRefusal phaseNumber carrierAt carrierWith openedCarrier
   commitments-go w c l phase long =
       rw (is-at w l TakeCommitments (λ e. absurd (omega arith)) phase .3)
-      (both-zero _ _ (due-state 1 1 refl (λ e. absurd (omega arith))) (unless-holds _ 2 (eq-eqb (length c) (commitmentsLength (o .scheme)) long)))
+      (both-zero _ _ (due-state 1 1 refl (λ e. absurd (omega arith))) (unless-holds _ 2 (eq-eqb (length c) (commitmentsLength (passes o)) long)))
 
   pub alpha-goes : (w : World) (α : ℕ) → Link o w → phaseNumber (w .carrier .phase) ≡ 2 → α < qOf (o .system) → alphaRefusal (w .carrier) α ≡ 0
   unfolding alphaRefusal phaseNumber carrierAt carrierWith openedCarrier
@@ -114,30 +113,30 @@ module _ (o : Opening) where
       (both-zero _ _ (due-state 3 3 refl (λ e. absurd (omega arith)))
       (both-zero _ _ (unless-holds _ 2 (eq-eqb (length m) (nOf (o .system) + mOf (o .system)) long)) (unless-holds _ 3 (at-all-below (qOf (o .system)) m elements))))
 
-  pub challenge-goes : (w : World) (challenge : ℕ) → Link o w → phaseNumber (w .carrier .phase) ≡ 4 → challenge < challenges (o .scheme) →
+  pub challenge-goes : (w : World) (challenge : ℕ) → Link o w → phaseNumber (w .carrier .phase) ≡ 4 → challenge < challenges (passes o) →
       challengeRefusal (w .carrier) challenge ≡ 0
   unfolding challengeRefusal phaseNumber carrierAt carrierWith openedCarrier
   challenge-goes w challenge l phase value =
       rw (is-at w l SetChallenge (λ e. absurd (omega arith)) phase .3)
-      (both-zero _ _ (due-state 4 4 refl (λ e. absurd (omega arith))) (unless-holds _ 4 (lt-ltb challenge (challenges (o .scheme)) value)))
+      (both-zero _ _ (due-state 4 4 refl (λ e. absurd (omega arith))) (unless-holds _ 4 (lt-ltb challenge (challenges (passes o)) value)))
 
   pub reply-goes : (w : World) (reply : List ℕ) → systemRefusal (o .system) ≡ 0 → Link o w → phaseNumber (w .carrier .phase) ≡ 5 →
-      length reply ≡ replyLength (o .scheme) (nOf (o .system)) (mOf (o .system)) →
-      Elements (qOf (o .system)) (take (vectorsLength (o .scheme) (nOf (o .system)) (mOf (o .system))) reply) → replyRefusal (w .carrier) (o .system) reply ≡ 0
+      length reply ≡ replyLength (passes o) (nOf (o .system)) (mOf (o .system)) →
+      Elements (qOf (o .system)) (take (vectorsLength (passes o) (nOf (o .system)) (mOf (o .system))) reply) → replyRefusal (w .carrier) (o .system) reply ≡ 0
   unfolding replyRefusal systemAgainst phaseNumber carrierAt carrierWith openedCarrier
   reply-goes w reply good l phase long elements =
       rw (is-at w l TakeReply (λ e. absurd (omega arith)) phase .3)
       (both-zero _ _ (due-state 5 5 refl (λ e. absurd (omega arith)))
       (both-zero _ _ (both-zero _ _ good (unless-holds _ 7 (sizes-has (o .system) _ _ _ refl refl refl)))
-      (both-zero _ _ (unless-holds _ 2 (eq-eqb (length reply) (replyLength (o .scheme) (nOf (o .system)) (mOf (o .system))) long)) (unless-holds _ 3 (at-all-below _ _ elements)))))
+      (both-zero _ _ (unless-holds _ 2 (eq-eqb (length reply) (replyLength (passes o) (nOf (o .system)) (mOf (o .system))) long)) (unless-holds _ 3 (at-all-below _ _ elements)))))
 
   -- ---- a call that is not refused has right lengths, elements and challenge
 
-  pub commitments-fit : (w : World) (c : List ℕ) → Link o w → commitmentsRefusal (w .carrier) c ≡ 0 → length c ≡ commitmentsLength (o .scheme)
+  pub commitments-fit : (w : World) (c : List ℕ) → Link o w → commitmentsRefusal (w .carrier) c ≡ 0 → length c ≡ commitmentsLength (passes o)
   unfolding commitmentsRefusal phaseNumber carrierAt carrierWith openedCarrier
   commitments-fit w c l none =
       let is = is-at w l TakeCommitments (λ e. absurd (omega arith)) (state-due _ 1 (first-zero _ _ none)) .3 in
-      equal-holds (length c) (commitmentsLength (o .scheme)) 2 tt (later-zero _ _ (ap (λ (k : Carrier). commitmentsRefusal k c) (sym is) ∙ none))
+      equal-holds (length c) (commitmentsLength (passes o)) 2 tt (later-zero _ _ (ap (λ (k : Carrier). commitmentsRefusal k c) (sym is) ∙ none))
 
   pub alpha-fits : (w : World) (α : ℕ) → Link o w → alphaRefusal (w .carrier) α ≡ 0 → α < qOf (o .system)
   unfolding alphaRefusal phaseNumber carrierAt carrierWith openedCarrier
@@ -155,20 +154,20 @@ module _ (o : Opening) where
         all-below-at _ _ (test-holds (allBelow (qOf (o .system)) m) 3 tt (later-zero _ _ rest)),
       )
 
-  pub challenge-fits : (w : World) (challenge : ℕ) → Link o w → challengeRefusal (w .carrier) challenge ≡ 0 → challenge < challenges (o .scheme)
+  pub challenge-fits : (w : World) (challenge : ℕ) → Link o w → challengeRefusal (w .carrier) challenge ≡ 0 → challenge < challenges (passes o)
   unfolding challengeRefusal phaseNumber carrierAt carrierWith openedCarrier
   challenge-fits w challenge l none =
       let is = is-at w l SetChallenge (λ e. absurd (omega arith)) (state-due _ 4 (first-zero _ _ none)) .3 in
-      ltb-true challenge (challenges (o .scheme))
-      (test-holds (ltb challenge (challenges (o .scheme))) 4 tt (later-zero _ _ (ap (λ (k : Carrier). challengeRefusal k challenge) (sym is) ∙ none)))
+      ltb-true challenge (challenges (passes o))
+      (test-holds (ltb challenge (challenges (passes o))) 4 tt (later-zero _ _ (ap (λ (k : Carrier). challengeRefusal k challenge) (sym is) ∙ none)))
 
   pub reply-fits : (w : World) (b reply : List ℕ) → Link o w → replyRefusal (w .carrier) b reply ≡ 0 →
-      (length reply ≡ replyLength (o .scheme) (nOf (o .system)) (mOf (o .system))) ×
-      Elements (qOf (o .system)) (take (vectorsLength (o .scheme) (nOf (o .system)) (mOf (o .system))) reply)
+      (length reply ≡ replyLength (passes o) (nOf (o .system)) (mOf (o .system))) ×
+      Elements (qOf (o .system)) (take (vectorsLength (passes o) (nOf (o .system)) (mOf (o .system))) reply)
   unfolding replyRefusal phaseNumber carrierAt carrierWith openedCarrier
   reply-fits w b reply l none =
       let is = is-at w l TakeReply (λ e. absurd (omega arith)) (state-due _ 5 (first-zero _ _ none)) .3 in
       let rest = later-zero _ _ (later-zero _ _ (ap (λ (k : Carrier). replyRefusal k b reply) (sym is) ∙ none)) in (
-        equal-holds (length reply) (replyLength (o .scheme) (nOf (o .system)) (mOf (o .system))) 2 tt (first-zero _ _ rest),
-        all-below-at _ _ (test-holds (allBelow (qOf (o .system)) (take (vectorsLength (o .scheme) (nOf (o .system)) (mOf (o .system))) reply)) 3 tt (later-zero _ _ rest)),
+        equal-holds (length reply) (replyLength (passes o) (nOf (o .system)) (mOf (o .system))) 2 tt (first-zero _ _ rest),
+        all-below-at _ _ (test-holds (allBelow (qOf (o .system)) (take (vectorsLength (passes o) (nOf (o .system)) (mOf (o .system))) reply)) 3 tt (later-zero _ _ rest)),
       )

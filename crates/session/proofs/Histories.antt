@@ -9,11 +9,13 @@ use native.Mathlib.Nat.{le-refl}
 use native.Mathlib.Numerals.{add-one}
 use native.Mathlib.Omega.{arith}
 use lib.Dec.{eqb, leb}
-use borrow.Author.Tests.{eqb-true, eqb-false, leb-true, ne-eqb}
+use borrow.Author.Tests.{eqb-true, eqb-false, leb-true}
 use Rattle.slices.proofs.Booleans.{and-left, and-right}
 use Rattle.refusal.specs.Refusal.{kept}
 use Rattle.refusal.proofs.Refusals.{first-zero, later-zero, test-holds, kept-accepted, kept-refused}
 use Rattle.system.proofs.SystemLayout.{accepted}
+use Rattle.scheme.specs.declared.Scheme.{Scheme}
+use Rattle.scheme.specs.declared.Scheme.the-variants.{ThreePass, FivePass}
 use Rattle.scheme.specs.Scheme.{isRounds}
 use Rattle.session_state.specs.declared.Verdict.the-variants.{Accepted, Rejected}
 use Rattle.session_state.proofs.States.{ByState, by-state-eleven, by-state-ten}
@@ -28,12 +30,13 @@ use Rattle.carrier_state.specs.declared.session.CarrierPhase.the-variants as Ca
 use Rattle.carrier_state.specs.declared.session.Carrier.{Carrier}
 use Rattle.carrier_state.specs.Carrier as CarrierCalls
 use Rattle.carrier_state.proofs.Eleven as CarrierEleven
-use Rattle.session.specs.Session.{Opening, Call, commit, answerAlpha, reply, takeCommitments, setAlpha, takeMiddle, setChallenge, takeReply, Log, Judgement, World, opened, refusal, effect, step, after}
-use Rattle.session.specs.Histories.{acceptOf, acceptCount, CardOver, RejectedOne, AcceptedAll, CarrierOver, IsGiven, Next, here, later, cardThree, cardFive, cardOrder, CardMade, carrierThree, carrierFive, carrierOrder, CarrierMade, on-card, on-carrier, placeOf, OnCard, OverAt, NextAt, DueAt, StateRefusals, CarrierClaim, CardClaim}
+use Rattle.session.specs.Session.{Terms, passes, Call, commit, answerAlpha, reply, takeCommitments, setAlpha, takeMiddle, setChallenge, takeReply, Log, Judgement, World, opened, refusal, effect, step, after}
+use Rattle.session.specs.Histories.{acceptOf, acceptCount, CardOver, RejectedOne, AcceptedAll, CarrierOver, IsGiven, Next, here, later, cardOrder, CardMade, carrierOrder, CarrierMade, on-card, on-carrier, placeOf, OnCard, OverAt, NextAt, DueAt, StateRefusals, CarrierClaim, CardClaim}
 use Rattle.session.proofs.Logs.{Clear, none-given, given-before}
 use Rattle.session.proofs.Phases.{same-card-phase, same-carrier-phase, not-both, next-unique}
+use Rattle.session.proofs.Schemes.{by-scheme}
 use Rattle.session.proofs.CarrierHistory as Ca
-use Rattle.session.proofs.CarrierHistory.{by-scheme, Answered, AllAccepted, CarrierHistory, CarrierState, Progress, CarrierOpens}
+use Rattle.session.proofs.CarrierHistory.{Answered, AllAccepted, CarrierHistory, CarrierState, Progress, CarrierOpens}
 use Rattle.session.proofs.CardHistory as Cd
 use Rattle.session.proofs.CardHistory.{CardHistory, CardGoes, CardProgress}
 
@@ -60,7 +63,7 @@ none-rejected : (judged : Log Judgement) (r : ℕ) → AllAccepted judged r → 
 none-rejected judged r all clear k j e is-false =
     Ca.not-both-answers judged k (all k (given-before judged r k j clear e)) (j, e, is-false)
 
-module _ (o : Opening) where
+module _ (o : Terms) where
   -- ---- the carrier after a list of calls
 
   opens-carrier : CarrierCalls.openRefusal (o .system) (o .scheme) (o .rounds) (o .key) ≡ 0 → CarrierOpens o
@@ -130,7 +133,7 @@ along P keeps (c ∷ cs) w x = along P keeps cs (step w c) (stepped P w c x (kee
 
 -- ---- what follows of the carrier
 
-module _ (o : Opening) (w : World) where
+module _ (o : Terms) (w : World) where
   rejected-count : (k : ℕ) → w .history .carrierRound ≡ k + 1 → AllAccepted (w .history .judged) k → Answered (w .history .judged) k false →
       acceptCount (w .history .judged) (w .history .carrierRound) ≡ k
   rejected-count k over all last =
@@ -197,32 +200,34 @@ module _ (o : Opening) (w : World) where
 
   -- ---- the call that is due
 
-  carrier-order : (p : CarrierPhase) → (o .scheme ≡ 3 → Next (CarrierMade (w .history)) carrierThree p) →
-      ((o .scheme ≡ 3 → ⊥) → Next (CarrierMade (w .history)) carrierFive p) →
-      Next (CarrierMade (w .history)) (carrierOrder (o .scheme)) p
-  unfolding carrierOrder
-  carrier-order p three five = by-scheme (o .scheme) (λ e. rw e (three e)) (λ other. rw (ne-eqb (o .scheme) 3 other) (five other))
+  carrier-three : (p : CarrierPhase) → passes o ≡ ThreePass → Next (CarrierMade (w .history)) (carrierOrder ThreePass) p →
+      Next (CarrierMade (w .history)) (carrierOrder (passes o)) p
+  carrier-three p three next = subst (λ (s : Scheme). Next (CarrierMade (w .history)) (carrierOrder s) p) (sym three) next
+
+  carrier-five : (p : CarrierPhase) → passes o ≡ FivePass → Next (CarrierMade (w .history)) (carrierOrder FivePass) p →
+      Next (CarrierMade (w .history)) (carrierOrder (passes o)) p
+  carrier-five p five next = subst (λ (s : Scheme). Next (CarrierMade (w .history)) (carrierOrder s) p) (sym five) next
 
   progress-next : Clear (w .history .judged) (w .history .carrierRound) → (p : CarrierPhase) →
-      Progress o (w .history .asked) (w .history .taken) (w .carrier) (w .history .carrierRound) p → Next (CarrierMade (w .history)) (carrierOrder (o .scheme)) p
-  unfolding CarrierMade
+      Progress o (w .history .asked) (w .history .taken) (w .carrier) (w .history .carrierRound) p → Next (CarrierMade (w .history)) (carrierOrder (passes o)) p
+  unfolding CarrierMade carrierOrder
   progress-next unjudged p (Ca.commitments-due e clear) =
-      carrier-order p (λ three. here _ _ (not-given _ _ (clear .no-commitments))) (λ other. here _ _ (not-given _ _ (clear .no-commitments)))
+      by-scheme (passes o) (λ three. carrier-three p three (here _ _ (not-given _ _ (clear .no-commitments))))
+      (λ five. carrier-five p five (here _ _ (not-given _ _ (clear .no-commitments))))
   progress-next unjudged p (Ca.alpha-due c five taken e clear) =
-      carrier-order p (λ three. absurd (five three)) (λ other. later _ _ _ (c, taken .taken) (here _ _ (not-given _ _ (clear .no-alphas))))
+      carrier-five p five (later _ _ _ (c, taken .taken) (here _ _ (not-given _ _ (clear .no-alphas))))
   progress-next unjudged p (Ca.middle-due c α five taken set e clear) =
-      carrier-order p (λ three. absurd (five three))
-      (λ other. later _ _ _ (c, taken .taken) (later _ _ _ (α, set) (here _ _ (not-given _ _ (clear .no-middles)))))
+      carrier-five p five (later _ _ _ (c, taken .taken) (later _ _ _ (α, set) (here _ _ (not-given _ _ (clear .no-middles)))))
   progress-next unjudged p (Ca.challenge-due c m taken (Ca.none-held three) e clear) =
-      carrier-order p (λ same. later _ _ _ (c, taken .taken) (here _ _ (not-given _ _ (clear .no-challenges)))) (λ other. absurd (other three))
-  progress-next unjudged p (Ca.challenge-due c m taken (Ca.middle-held five α l set got size is) e clear) =
-      carrier-order p (λ three. absurd (five three))
-      (λ other. later _ _ _ (c, taken .taken) (later _ _ _ (α, set) (later _ _ _ (l, got) (here _ _ (not-given _ _ (clear .no-challenges))))))
+      carrier-three p three (later _ _ _ (c, taken .taken) (here _ _ (not-given _ _ (clear .no-challenges))))
+  progress-next unjudged p (Ca.challenge-due c m taken (Ca.turn-held five α l set got size is) e clear) =
+      carrier-five p five
+      (later _ _ _ (c, taken .taken) (later _ _ _ (α, set) (later _ _ _ (l, got) (here _ _ (not-given _ _ (clear .no-challenges))))))
   progress-next unjudged p (Ca.reply-due c m challenge taken (Ca.none-held three) asked e clear) =
-      carrier-order p (λ same. later _ _ _ (c, taken .taken) (later _ _ _ (challenge, asked) (here _ _ (not-given _ _ unjudged)))) (λ other. absurd (other three))
-  progress-next unjudged p (Ca.reply-due c m challenge taken (Ca.middle-held five α l set got size is) asked e clear) =
-      carrier-order p (λ three. absurd (five three))
-      (λ other. later _ _ _ (c, taken .taken) (later _ _ _ (α, set) (later _ _ _ (l, got) (later _ _ _ (challenge, asked) (here _ _ (not-given _ _ unjudged))))))
+      carrier-three p three (later _ _ _ (c, taken .taken) (later _ _ _ (challenge, asked) (here _ _ (not-given _ _ unjudged))))
+  progress-next unjudged p (Ca.reply-due c m challenge taken (Ca.turn-held five α l set got size is) asked e clear) =
+      carrier-five p five
+      (later _ _ _ (c, taken .taken) (later _ _ _ (α, set) (later _ _ _ (l, got) (later _ _ _ (challenge, asked) (here _ _ (not-given _ _ unjudged))))))
 
   carrier-phase-is : CarrierHistory o w → (p : CarrierPhase) → (CarrierCalls.phaseNumber p ≡ 0 → ⊥) → (w .carrier .phase ≡ p) ↔ DueAt o (w .history) (on-carrier p)
   unfolding OverAt NextAt
@@ -257,22 +262,24 @@ module _ (o : Opening) (w : World) where
 
   -- ---- what follows of the card
 
-  card-order : (p : CardPhase) → (o .scheme ≡ 3 → Next (CardMade (w .history)) cardThree p) →
-      ((o .scheme ≡ 3 → ⊥) → Next (CardMade (w .history)) cardFive p) → Next (CardMade (w .history)) (cardOrder (o .scheme)) p
-  unfolding cardOrder
-  card-order p three five = by-scheme (o .scheme) (λ e. rw e (three e)) (λ other. rw (ne-eqb (o .scheme) 3 other) (five other))
+  card-three : (p : CardPhase) → passes o ≡ ThreePass → Next (CardMade (w .history)) (cardOrder ThreePass) p →
+      Next (CardMade (w .history)) (cardOrder (passes o)) p
+  card-three p three next = subst (λ (s : Scheme). Next (CardMade (w .history)) (cardOrder s) p) (sym three) next
+
+  card-five : (p : CardPhase) → passes o ≡ FivePass → Next (CardMade (w .history)) (cardOrder FivePass) p →
+      Next (CardMade (w .history)) (cardOrder (passes o)) p
+  card-five p five next = subst (λ (s : Scheme). Next (CardMade (w .history)) (cardOrder s) p) (sym five) next
 
   card-next : Clear (w .history .given .replies) (w .history .cardRound) → (p : CardPhase) → CardProgress o (w .history .given) (w .card) (w .history .cardRound) p →
-      Next (CardMade (w .history)) (cardOrder (o .scheme)) p
-  unfolding CardMade
-  card-next unreplied p (Cd.commit-due is c m) = card-order p (λ three. here _ _ (not-given _ _ c)) (λ other. here _ _ (not-given _ _ c))
-  card-next unreplied p (Cd.alpha-due b lent is five given c m) =
-      card-order p (λ three. absurd (five three)) (λ other. later _ _ _ given (here _ _ (not-given _ _ m)))
-  card-next unreplied p (Cd.reply-due b lent is given c (inl three) m) =
-      card-order p (λ same. later _ _ _ given (here _ _ (not-given _ _ unreplied))) (λ other. absurd (other three))
+      Next (CardMade (w .history)) (cardOrder (passes o)) p
+  unfolding CardMade cardOrder
+  card-next unreplied p (Cd.commit-due is c m) =
+      by-scheme (passes o) (λ three. card-three p three (here _ _ (not-given _ _ c))) (λ five. card-five p five (here _ _ (not-given _ _ c)))
+  card-next unreplied p (Cd.alpha-due b lent is five given c m) = card-five p five (later _ _ _ given (here _ _ (not-given _ _ m)))
+  card-next unreplied p (Cd.reply-due b lent is given c (inl three) m) = card-three p three (later _ _ _ given (here _ _ (not-given _ _ unreplied)))
   card-next unreplied p (Cd.reply-due b lent is given c (inr middle) m) =
-      card-order p (λ three. later _ _ _ given (here _ _ (not-given _ _ unreplied)))
-      (λ other. later _ _ _ given (later _ _ _ middle (here _ _ (not-given _ _ unreplied))))
+      by-scheme (passes o) (λ three. card-three p three (later _ _ _ given (here _ _ (not-given _ _ unreplied))))
+      (λ five. card-five p five (later _ _ _ given (later _ _ _ middle (here _ _ (not-given _ _ unreplied)))))
 
   card-phase-is : CardHistory o w → (p : CardPhase) → (CardCalls.phaseNumber p ≡ 0 → ⊥) → (w .card .phase ≡ p) ↔ DueAt o (w .history) (on-card p)
   unfolding OverAt NextAt
@@ -305,19 +312,19 @@ module _ (o : Opening) (w : World) where
 -- ---- refusals by the state
 
 -- where a call's refusal is by the state first, by when its session is closed and when it is due
-by-state : {Ended Turn : Type 0} (number phase due : ℕ) → ByState number phase due → (phase ≡ 0) ↔ Ended → (phase ≡ due) ↔ Turn →
-    ((number ≡ 11) ↔ Ended) × ((number ≡ 10) ↔ ((Ended → ⊥) × (Turn → ⊥)))
-by-state number phase due s closed turn =
+by-state : {Ended Due : Type 0} (number phase due : ℕ) → ByState number phase due → (phase ≡ 0) ↔ Ended → (phase ≡ due) ↔ Due →
+    ((number ≡ 11) ↔ Ended) × ((number ≡ 10) ↔ ((Ended → ⊥) × (Due → ⊥)))
+by-state number phase due s closed is-due =
     let eleven = by-state-eleven number phase due s in
     let ten = by-state-ten number phase due s in (
       (λ e. closed .0 (eqb-true phase 0 (sym eleven ∙ rw e)), λ ended. eqb-true number 11 (eleven ∙ rw (closed .1 ended))),
       (
-        λ e. let (open-yet, other) = ten .0 e in (λ ended. open-yet (closed .1 ended), λ is. other (turn .1 is)),
-        λ (open-yet, other). ten .1 (λ none. open-yet (closed .0 none), λ same. other (turn .0 same)),
+        λ e. let (open-yet, other) = ten .0 e in (λ ended. open-yet (closed .1 ended), λ is. other (is-due .1 is)),
+        λ (open-yet, other). ten .1 (λ none. open-yet (closed .0 none), λ same. other (is-due .0 same)),
       ),
     )
 
-module _ (o : Opening) (w : World) where
+module _ (o : Terms) (w : World) where
   pub carrier-number : CarrierHistory o w → (p : CarrierPhase) → (CarrierCalls.phaseNumber p ≡ 0 → ⊥) →
       (CarrierCalls.phaseNumber (w .carrier .phase) ≡ CarrierCalls.phaseNumber p) ↔ DueAt o (w .history) (on-carrier p)
   carrier-number x p nonzero =
@@ -388,13 +395,13 @@ module _ (o : Opening) (w : World) where
 
 -- ---- every list of calls
 
-pub carrier-after : (o : Opening) → CarrierCalls.openRefusal (o .system) (o .scheme) (o .rounds) (o .key) ≡ 0 → (calls : List Call) → CarrierHistory o (after (opened o) calls)
+pub carrier-after : (o : Terms) → CarrierCalls.openRefusal (o .system) (o .scheme) (o .rounds) (o .key) ≡ 0 → (calls : List Call) → CarrierHistory o (after (opened o) calls)
 carrier-after o none calls = let k = opens-carrier o none in along (CarrierHistory o) (carrier-effect o k) calls (opened o) (carrier-started o k)
 
-pub carrier-claim : (o : Opening) → CarrierCalls.openRefusal (o .system) (o .scheme) (o .rounds) (o .key) ≡ 0 → (calls : List Call) → CarrierClaim o (after (opened o) calls)
+pub carrier-claim : (o : Terms) → CarrierCalls.openRefusal (o .system) (o .scheme) (o .rounds) (o .key) ≡ 0 → (calls : List Call) → CarrierClaim o (after (opened o) calls)
 carrier-claim o none calls = carrier-claimed o _ (carrier-after o none calls)
 
-pub card-claim : (o : Opening) → CardCalls.openRefusal (o .system) (o .scheme) (o .rounds) (o .key) (o .secret) ≡ 0 → (calls : List Call) → CardClaim o (after (opened o) calls)
+pub card-claim : (o : Terms) → CardCalls.openRefusal (o .system) (o .scheme) (o .rounds) (o .key) (o .secret) ≡ 0 → (calls : List Call) → CardClaim o (after (opened o) calls)
 card-claim o none calls =
     let k = opens-card o none in
     card-claimed o _ (along (CardHistory o) (card-effect o (k .1)) calls (opened o) (card-started o (k .0)))

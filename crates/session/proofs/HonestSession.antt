@@ -17,7 +17,7 @@ use Rattle.card_state.specs.Card as CardCalls
 use Rattle.card_state.proofs.Taken.{open-taken}
 use Rattle.carrier_state.specs.declared.session.CarrierPhase.the-variants.{TakeCommitments, SetAlpha, TakeMiddle, SetChallenge, TakeReply}
 use Rattle.carrier_state.specs.Carrier as CarrierCalls
-use Rattle.session.specs.Session.{Opening, Call, commit, answerAlpha, reply, takeCommitments, setAlpha, takeMiddle, setChallenge, takeReply, World, opened, refusal, effect, step, after}
+use Rattle.session.specs.Session.{Terms, Call, commit, answerAlpha, reply, takeCommitments, setAlpha, takeMiddle, setChallenge, takeReply, World, opened, refusal, effect, step, after}
 use Rattle.session.specs.Histories.{Place, on-card, on-carrier, placeOf, IsDue}
 use Rattle.session.specs.Honest.{Unaltered, Honest, Fitting, RoundAccepted, Accepts, Ended, DueGoes, Holds}
 use Rattle.session.proofs.Logs.{none-given}
@@ -35,7 +35,7 @@ use Rattle.session.proofs.Verdicts.{Opens, of-carrier}
 
 -- ---- openings that are not refused
 
-pub opens : (o : Opening) → CardCalls.openRefusal (o .system) (o .scheme) (o .rounds) (o .key) (o .secret) ≡ 0 → Opens o
+pub opens : (o : Terms) → CardCalls.openRefusal (o .system) (o .scheme) (o .rounds) (o .key) (o .secret) ≡ 0 → Opens o
 unfolding isRounds
 opens o none =
     let k = open-taken (o .system) (o .scheme) (o .rounds) (o .key) (o .secret) none in
@@ -43,14 +43,13 @@ opens o none =
     let least = leb-true 1 (o .rounds) (and-left (leb 1 (o .rounds)) (leb (o .rounds) 255) (k .rounds-value)) in
     record {
       good = k .good;
-      scheme-value = k .scheme-value;
       few = omega arith;
       some-rounds = omega arith;
       secret-is = held-is (o .system) (k .good) (nOf (o .system)) (o .secret) (k .secret-length) (k .secret-elements);
       key-is = k .key;
     }
 
-pub start : (o : Opening) → Opens o → Link o (opened o)
+pub start : (o : Terms) → Opens o → Link o (opened o)
 unfolding opened
 start o k =
     record {
@@ -73,7 +72,7 @@ unfoldable pub AtPhase : World → Call → Type 0
 unfolding AtPlace placeOf
 AtPhase w c = AtPlace w (placeOf c)
 
-at-phase : (o : Opening) (w : World) (c : Call) → Link o w → IsDue o (w .history) c → AtPhase w c
+at-phase : (o : Terms) (w : World) (c : Call) → Link o w → IsDue o (w .history) c → AtPhase w c
 unfolding placeOf AtPlace AtPhase CardCalls.phaseNumber CarrierCalls.phaseNumber
 at-phase o w (commit b lent out) l due = card-number o w (l .card-history) Commit (λ e. absurd (omega arith)) .1 due
 at-phase o w (answerAlpha b α out) l due = card-number o w (l .card-history) AnswerAlpha (λ e. absurd (omega arith)) .1 due
@@ -84,7 +83,7 @@ at-phase o w (takeMiddle m) l due = carrier-number o w (l .carrier-history) Take
 at-phase o w (setChallenge challenge) l due = carrier-number o w (l .carrier-history) SetChallenge (λ e. absurd (omega arith)) .1 due
 at-phase o w (takeReply b r) l due = carrier-number o w (l .carrier-history) TakeReply (λ e. absurd (omega arith)) .1 due
 
-module _ (o : Opening) (k : Opens o) where
+module _ (o : Terms) (k : Opens o) where
   -- ---- one call
 
   pub effect-linked : (w : World) (c : Call) → Link o w → refusal w c ≡ 0 → Unaltered o (w .history) c → Link o (effect w c)
@@ -180,25 +179,25 @@ module _ (o : Opening) (k : Opens o) where
   linked-after (c ∷ cs) w l honest = linked-after cs (step w c) (step-linked w c l (unaltered w c cs honest)) (honest .1)
 
 -- "It is claimed of the whole list at once": for every list of calls of an honest session, what `Holds` says
-pub honest-session : (o : Opening) → CardCalls.openRefusal (o .system) (o .scheme) (o .rounds) (o .key) (o .secret) ≡ 0 →
+pub honest-session : (o : Terms) → CardCalls.openRefusal (o .system) (o .scheme) (o .rounds) (o .key) (o .secret) ≡ 0 →
     CarrierCalls.openRefusal (o .system) (o .scheme) (o .rounds) (o .key) ≡ 0 → (calls : List Call) → Honest o (opened o) calls → Holds o (opened o) calls
 honest-session o card-open carrier-open calls honest = let k = opens o card-open in holds o k calls (opened o) (start o k) honest
 
 -- what `Holds` says of each call, at any place of the list
-at-each : (o : Opening) (w : World) (before : List Call) (c : Call) (later : List Call) → Holds o w (before ++ c ∷ later) →
+at-each : (o : Terms) (w : World) (before : List Call) (c : Call) (later : List Call) → Holds o w (before ++ c ∷ later) →
     DueGoes o (after w before) c × Accepts o (after w before) c
 unfolding Holds after
 at-each o w [] c later (now-ended, due, accepts, rest) = (due, accepts)
 at-each o w (b ∷ before) c later (now-ended, due, accepts, rest) = at-each o (step w b) before c later rest
 
 -- an honest list is honest up to any call, and that call is unaltered where it is not refused
-honest-front : (o : Opening) (w : World) (before : List Call) (c : Call) (later : List Call) → Honest o w (before ++ c ∷ later) →
+honest-front : (o : Terms) (w : World) (before : List Call) (c : Call) (later : List Call) → Honest o w (before ++ c ∷ later) →
     Honest o w before × (refusal (after w before) c ≡ 0 → Unaltered o (after w before .history) c)
 unfolding Honest after
 honest-front o w [] c later (same, rest) = (tt, λ none. same (omega (arith, none)))
 honest-front o w (b ∷ before) c later (same, rest) = let front = honest-front o (step w b) before c later rest in ((same, front .0), front .1)
 
-module _ (o : Opening) (card-open : CardCalls.openRefusal (o .system) (o .scheme) (o .rounds) (o .key) (o .secret) ≡ 0)
+module _ (o : Terms) (card-open : CardCalls.openRefusal (o .system) (o .scheme) (o .rounds) (o .key) (o .secret) ≡ 0)
     (carrier-open : CarrierCalls.openRefusal (o .system) (o .scheme) (o .rounds) (o .key) ≡ 0) (before later : List Call) where
   -- in every round: a call made when due, with right lengths, elements and challenge, is not refused
   pub each-due : (c : Call) → Honest o (opened o) (before ++ c ∷ later) → IsDue o (after (opened o) before .history) c → Fitting o c →
@@ -219,7 +218,7 @@ module _ (o : Opening) (card-open : CardCalls.openRefusal (o .system) (o .scheme
   each-reply b r honest = at-each o (opened o) before (takeReply b r) later (honest-session o card-open carrier-open _ honest) .1
 
 -- a challenge is set only while both ends are in the same round: that need not be asked of an honest list
-pub same-round : (o : Opening) → CardCalls.openRefusal (o .system) (o .scheme) (o .rounds) (o .key) (o .secret) ≡ 0 → (calls : List Call) →
+pub same-round : (o : Terms) → CardCalls.openRefusal (o .system) (o .scheme) (o .rounds) (o .key) (o .secret) ≡ 0 → (calls : List Call) →
     Honest o (opened o) calls → (challenge : ℕ) → refusal (after (opened o) calls) (setChallenge challenge) ≡ 0 →
     after (opened o) calls .history .cardRound ≡ after (opened o) calls .history .carrierRound
 unfolding refusal

@@ -10,5 +10,6 @@ pub mod Openings
 pub mod Phases
 pub mod PlayedSession
 pub mod Refused
+pub mod Schemes
 pub mod States
 pub mod Verdicts

@@ -7,37 +7,36 @@ use native.Mathlib.Omega.{arith}
 use lib.Dec.{leb, eqb}
 use lib.ListN.{length, take, length-take, length-replicate, getD-replicate}
 use lib.Seq.{getD-take}
-use borrow.Author.Tests.{eq-eqb, le-leb, leb-true, eqb-true, ne-eqb}
+use borrow.Author.Tests.{eq-eqb, le-leb, leb-true, eqb-true}
 use Rattle.slices.specs.Slices.{zeros}
 use Rattle.slices.proofs.Booleans.{and-both, and-left, and-right}
 use Rattle.refusal.proofs.Refusals.{both-zero, unless-holds, first-zero, later-zero, test-holds, equal-holds}
-use Rattle.field.specs.Vector.{allBelow}
+use Rattle.field.specs.Vector.{Elements, allBelow}
 use Rattle.field.proofs.Fields.{ring}
 use Rattle.field.proofs.Modulus.{size-of}
 use Rattle.system.specs.System.{qOf, nOf, mOf}
 use Rattle.system.proofs.SystemLayout.{accepted, well-formed, not-refused, at-all-below, all-below-at}
-use Rattle.scheme.specs.Scheme.{isScheme, isRounds, challenges, commitmentsLength}
-use Rattle.record_form.specs.Record.{Elements}
+use Rattle.scheme.specs.Scheme.{byteOf, schemeOf, isScheme, isRounds, lentLength}
 use Rattle.card_state.specs.Card as CardCalls
 use Rattle.card_state.proofs.Taken.{open-taken, open-due}
 use Rattle.carrier_state.specs.Carrier as CarrierCalls
-use Rattle.session.specs.Session.{Opening}
+use Rattle.session.specs.Session.{Terms, passes}
 use Rattle.session.specs.Played.{CarrierOpenable, Openable, Draw, Fits, zeroDraw, drawsFrom, AllFit}
-use Rattle.session.proofs.CarrierHistory.{by-scheme}
+use Rattle.session.proofs.Schemes.{some-challenge}
 
 -- ---- scheme and N
 
 scheme-taken : (scheme : ℕ) → (scheme ≡ 3) ⊎ (scheme ≡ 5) → isScheme scheme ≡ true
-unfolding isScheme
+unfolding isScheme schemeOf byteOf
 scheme-taken scheme which = ⊎-elim (λ (e : scheme ≡ 3). rw e) (λ (e : scheme ≡ 5). rw e) which
 
 scheme-is : (scheme : ℕ) → isScheme scheme ≡ true → (scheme ≡ 3) ⊎ (scheme ≡ 5)
-unfolding isScheme
+unfolding isScheme schemeOf byteOf
 scheme-is scheme h = go (eqb scheme 3) refl
   where
     go : (t : Bool) → eqb scheme 3 ≡ t → (scheme ≡ 3) ⊎ (scheme ≡ 5)
     go true e = inl (eqb-true scheme 3 e)
-    go false e = inr (eqb-true scheme 5 (simp e at h))
+    go false e = inr (sym (eqb-true 5 scheme (simp e at h)))
 
 rounds-taken : (rounds : ℕ) → 1 ≤ rounds → rounds ≤ 255 → isRounds rounds ≡ true
 unfolding isRounds
@@ -47,7 +46,7 @@ rounds-are : (rounds : ℕ) → isRounds rounds ≡ true → (1 ≤ rounds) × (
 unfolding isRounds
 rounds-are rounds h = (leb-true 1 rounds (and-left (leb 1 rounds) (leb rounds 255) h), leb-true rounds 255 (and-right (leb 1 rounds) (leb rounds 255) h))
 
-module _ (o : Opening) where
+module _ (o : Terms) where
   -- ---- the carrier's opening
 
   pub carrier-opens-for : CarrierOpenable o → CarrierCalls.openRefusal (o .system) (o .scheme) (o .rounds) (o .key) ≡ 0
@@ -127,26 +126,21 @@ zero-elements q k j positive i h =
     let within : i < j = omega (arith, h, size) in
     rw (getD-take j (zeros k) i 0 within, getD-replicate {A = ℕ} k i 0 0 (omega (arith, h, size, all))) positive
 
-no-challenge-wrong : (scheme : ℕ) → 0 < challenges scheme
-unfolding challenges
-no-challenge-wrong scheme = by-scheme scheme (λ three. rw three (omega arith)) (λ other. rw (ne-eqb scheme 3 other) (omega arith))
-
-pub zeros-fit : (o : Opening) → Openable o → Fits o (zeroDraw o)
+pub zeros-fit : (o : Terms) → Openable o → Fits o (zeroDraw o)
 unfolding zeroDraw zeros
 zeros-fit o k =
     let a = accepted (o .system) (not-refused (o .system) (k .for-carrier .system-well-formed)) in
     let positive : 0 < qOf (o .system) = rw (sym (size-of (qOf (o .system)) (a .is-field))) (ring (qOf (o .system)) .zero-below) in
-    let vectors = nOf (o .system) + nOf (o .system) + mOf (o .system) in
     record {
       lent-length = length-replicate {A = ℕ} _ 0;
-      lent-elements = zero-elements (qOf (o .system)) (vectors + commitmentsLength (o .scheme)) vectors positive;
-      alpha-element = λ other. positive;
-      challenge-value = no-challenge-wrong (o .scheme);
+      lent-elements = zero-elements (qOf (o .system)) (lentLength (passes o) (nOf (o .system)) (mOf (o .system))) _ positive;
+      alpha-element = λ alpha. positive;
+      challenge-value = some-challenge (passes o);
     }
 
 -- ---- whatever fits may be drawn
 
-pub all-fit : (o : Opening) (draw : ℕ → Draw) → ((r : ℕ) → Fits o (draw r)) → (r n : ℕ) → AllFit o (drawsFrom draw r n)
+pub all-fit : (o : Terms) (draw : ℕ → Draw) → ((r : ℕ) → Fits o (draw r)) → (r n : ℕ) → AllFit o (drawsFrom draw r n)
 unfolding AllFit drawsFrom
 all-fit o draw fit r zero = tt
 all-fit o draw fit r (suc n) = (fit r, all-fit o draw fit (r + 1) n)

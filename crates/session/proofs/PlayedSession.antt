@@ -2,20 +2,21 @@
 -- one round behind the other or with the card a round ahead, and such a list is honest and ends accepted. Assumes nothing.
 use Prim.Native.Nat.{ℕ, _+_, _<_}
 use mathlib.Core.Path.{_≡_, refl, sym, ap, ap₂, subst, _∙_}
-use mathlib.Core.Bool.{true, cond}
+use mathlib.Core.Bool.{true}
 use mathlib.Core.List.{List, [], _∷_, _++_}
 use mathlib.Core.Option.{some}
 use native.Mathlib.Omega.{arith}
-use lib.Dec.{eqb}
 use lib.ListN.{length, take}
-use borrow.Author.Tests.{ne-eqb}
 use Rattle.slices.specs.Slices.{zeros}
 use Rattle.refusal.proofs.Refusals.{kept-accepted}
-use Rattle.field.specs.Vector.{allBelow}
-use Rattle.system.specs.System.{qOf, nOf, mOf}
+use Rattle.field.specs.Vector.{Elements, allBelow}
+use Rattle.system.specs.System.{qOf, nOf, mOf, systemRefusal}
 use Rattle.system.proofs.SystemLayout.{all-below-at, at-all-below}
-use Rattle.scheme.specs.Scheme.{challenges, commitmentsLength, vectorsLength, rhosLength, replyLength}
-use Rattle.record_form.specs.Record.{Elements}
+use Rattle.scheme.specs.declared.Scheme.{Scheme}
+use Rattle.scheme.specs.declared.Scheme.the-variants.{ThreePass, FivePass}
+use Rattle.scheme.specs.Scheme.{challenges, commitmentCount, openedCount, hasAlpha}
+use Rattle.scheme.specs.Scheme.{drawnLength, commitmentsLength, lentLength, vectorsLength, rhosLength, replyLength}
+use Rattle.commitment.specs.declared.Domain.{Domain}
 use Rattle.exchange.proofs.Formed.{Lends}
 use Rattle.honest.proofs.Honest.{three-commitments-long, three-reply-long, three-reply-below, middle-long, middle-elements, five-commitments-long, five-reply-long, five-reply-below}
 use Rattle.session_state.specs.declared.Verdict.the-variants.{Accepted}
@@ -23,21 +24,24 @@ use Rattle.card_state.specs.declared.session.CardPhase.{CardPhase}
 use Rattle.card_state.specs.declared.session.CardPhase.the-variants.{AnswerAlpha, Reply}
 use Rattle.card_state.specs.declared.session.Card.{Card}
 use Rattle.card_state.specs.Card as CardCalls
-use Rattle.card_state.specs.Card.{committedCard, cardWith, openedCard, answeredCard, heldLent, sentCommitments, sentMiddle, sentReply}
+use Rattle.card_state.specs.Card.{behindCommit, committedCard, cardWith, openedCard, answeredCard, heldLent, commitmentsOf, sentCommitments, sentMiddle, sentReply}
 use Rattle.carrier_state.specs.declared.session.CarrierPhase.{CarrierPhase}
 use Rattle.carrier_state.specs.declared.session.CarrierPhase.the-variants.{TakeCommitments, SetAlpha, SetChallenge, TakeReply}
 use Rattle.carrier_state.specs.declared.session.Carrier.{Carrier}
 use Rattle.carrier_state.specs.Carrier as CarrierCalls
-use Rattle.carrier_state.specs.Carrier.{carrierWith, openedCarrier, withAlpha, withMiddle, withChallenge, judgedCarrier}
-use Rattle.session.specs.Session.{Opening, Call, Given, Asked, Taken, Judgement, Log, World, opened, refusal, effect, step, after}
+use Rattle.carrier_state.specs.Carrier.{heldCommitments, behindCommitments, carrierWith, openedCarrier, withAlpha, withMiddle, withChallenge, judgedCarrier}
+use Rattle.session.specs.Session.{Terms, passes, domainOf, Call, Given, Asked, Taken, Judgement, Log, World, opened, refusal, effect, step, after}
 use Rattle.session.specs.Honest.{Unaltered, Honest, Fitting, Ended, Holds}
-use Rattle.session.specs.Played.{Openable, Draw, Fits, zeroDraw, drawsFrom, AllFit, fresh, lending, committing, taking, setting, answering, taking-middle, asking, replying, judging, threeCalls, fiveCalls, exchanging, sessionCalls, aheadFrom, aheadCalls, Plays}
+use Rattle.session.specs.Played.{Openable, Draw, Fits, zeroDraw, drawsFrom, AllFit, fresh, lending, committing, taking, setting, answering, taking-middle, asking, replying, judging, exchangeCalls, exchanging, sessionCalls, aheadFrom, aheadCalls, Plays}
 use Rattle.session.proofs.States as St
 use Rattle.session.proofs.States.{Link}
 use Rattle.session.proofs.Logs.{put-there}
-use Rattle.session.proofs.CardSide.{sent-commitments-is, sent-middle-is, sent-reply-is}
+use Rattle.session.proofs.CardSide.{drawn-lends, sent-commitments-is, sent-middle-is, sent-reply-is}
+use Rattle.session.proofs.CardHistory as Cd
 use Rattle.session.proofs.CardHistory.{freshCard, heldCard, card-opens, committed-is, replied-next}
-use Rattle.session.proofs.CarrierHistory.{by-scheme, carrierAt, carrier-opens, took-commitments, judged-next}
+use Rattle.session.proofs.Schemes.{by-scheme, five-has-alpha}
+use Rattle.session.proofs.CarrierHistory as Ca
+use Rattle.session.proofs.CarrierHistory.{carrierAt, carrier-opens, took-commitments, judged-next}
 use Rattle.session.proofs.Verdicts.{Opens, reply-accepted}
 use Rattle.session.proofs.Openings.{card-opens-for, carrier-opens-for, zeros-fit, all-fit, length-draws}
 use Rattle.session.proofs.HonestSession.{opens, start, AtPhase, effect-linked, phase-goes, honest-session}
@@ -48,7 +52,27 @@ went : (w : World) (c : Call) → refusal w c ≡ 0 → step w c ≡ effect w c
 unfolding step
 went w c none = kept-accepted (refusal w c) w (effect w c) none
 
-module _ (o : Opening) (k : Opens o) where
+-- ---- what the card sends has its lengths and elements
+
+commitments-length : (scheme : Scheme) (d : Domain) (b : List ℕ) → systemRefusal b ≡ 0 → (s lent : List ℕ) →
+    length (commitmentsOf scheme d b s lent) ≡ commitmentsLength scheme
+unfolding commitmentsOf commitmentsLength commitmentCount
+commitments-length ThreePass d b good s lent = three-commitments-long b good d s lent
+commitments-length FivePass d b good s lent = five-commitments-long b good d s lent
+
+reply-length : (scheme : Scheme) (b : List ℕ) → systemRefusal b ≡ 0 → (s lent : List ℕ) → Lends b lent → (challenge : ℕ) →
+    length (St.replyBytes scheme b s lent challenge) ≡ replyLength scheme (nOf b) (mOf b)
+unfolding St.replyBytes replyLength vectorsLength rhosLength openedCount
+reply-length ThreePass b good s lent lends challenge = three-reply-long b good s lent lends challenge
+reply-length FivePass b good s lent lends challenge = five-reply-long b good s lent lends challenge
+
+reply-below : (scheme : Scheme) (b : List ℕ) → systemRefusal b ≡ 0 → (s lent : List ℕ) → Lends b lent → (challenge : ℕ) →
+    allBelow (qOf b) (take (vectorsLength scheme (nOf b) (mOf b)) (St.replyBytes scheme b s lent challenge)) ≡ true
+unfolding St.replyBytes vectorsLength
+reply-below ThreePass b good s lent lends challenge = three-reply-below b good s lent lends challenge
+reply-below FivePass b good s lent lends challenge = five-reply-below b good s lent lends challenge
+
+module _ (o : Terms) (k : Opens o) where
   -- a call in its phase goes, and leaves the ends linked for those behind it
   goes : (w : World) (c : Call) (cs : List Call) → Link o w → AtPhase w c → Fitting o c → Unaltered o (w .history) c →
       (refusal w c ≡ 0 → Link o (effect w c) → Plays o (effect w c) cs) → Plays o w (c ∷ cs)
@@ -60,14 +84,14 @@ module _ (o : Opening) (k : Opens o) where
   -- ---- both ends in a round
 
   abbrev freshCarrier : ℕ → Carrier
-  freshCarrier r = carrierAt o TakeCommitments r (zeros 96) (zeros 193) 0
+  freshCarrier r = carrierAt o TakeCommitments r (heldCommitments []) (zeros 193) 0
 
   -- what is due at the card, and at the carrier, behind the commitments
   abbrev cardNext : CardPhase
-  cardNext = cond (eqb (o .scheme) 3) Reply AnswerAlpha
+  cardNext = behindCommit (passes o)
 
   abbrev carrierNext : CarrierPhase
-  carrierNext = cond (eqb (o .scheme) 3) SetChallenge SetAlpha
+  carrierNext = behindCommitments (passes o)
 
   abbrev both : Card → Carrier → ℕ → Given → Asked → Taken → Log Judgement → World
   both card carrier r g a t j =
@@ -121,62 +145,42 @@ module _ (o : Opening) (k : Opens o) where
 
   module _ (d : Draw) (fits : Fits o d) where
     lends : Lends (o .system) (d .lent)
-    lends = at-all-below _ _ (fits .lent-elements)
+    lends = drawn-lends o (d .lent) (at-all-below _ _ (fits .lent-elements))
 
     -- ---- what the card sends, as its states name it
 
-    commitments-are : sentCommitments (fresh o) (o .system) (d .lent) ≡ St.commitmentsOf o (d .lent)
+    commitments-are : sentCommitments (fresh o) (o .system) (d .lent) ≡ St.givenCommitments o (d .lent)
     commitments-are = ap (λ (c : Card). sentCommitments c (o .system) (d .lent)) (card-opens o) ∙ sent-commitments-is o 0 (d .lent)
 
     lending-is : lending o d ≡ heldCard o (o .system) cardNext 0 (d .lent)
     lending-is = ap (λ (c : Card). committedCard c (o .system) (d .lent)) (card-opens o) ∙ committed-is o 0 (o .system) (d .lent) _ refl
 
-    middle-is : sentMiddle (lending o d) (o .system) (d .α) ≡ St.turnOf o (d .lent) (d .α)
+    middle-is : sentMiddle (lending o d) (o .system) (d .α) ≡ St.givenMiddle o (d .lent) (d .α)
     middle-is = ap (λ (c : Card). sentMiddle c (o .system) (d .α)) lending-is ∙ sent-middle-is o _ 0 (d .lent) (d .α)
 
-    reply-is : sentReply (lending o d) (d .challenge) ≡ St.replyOf o (d .lent) (d .challenge)
+    reply-is : sentReply (lending o d) (d .challenge) ≡ St.givenReply o (d .lent) (d .challenge)
     reply-is = ap (λ (c : Card). sentReply c (d .challenge)) lending-is ∙ sent-reply-is o _ 0 (d .lent) (d .challenge)
 
     -- ---- its lengths and elements
 
-    commitments-long : length (sentCommitments (fresh o) (o .system) (d .lent)) ≡ commitmentsLength (o .scheme)
-    unfolding St.commitmentsOf commitmentsLength
-    commitments-long =
-        ap length commitments-are ∙
-        by-scheme (o .scheme) (λ three. simp three (three-commitments-long (o .system) (k .good) (St.secretOf o) (d .lent)))
-        (λ other. simp (ne-eqb (o .scheme) 3 other) (five-commitments-long (o .system) (k .good) (St.secretOf o) (d .lent)))
+    commitments-long : length (sentCommitments (fresh o) (o .system) (d .lent)) ≡ commitmentsLength (passes o)
+    commitments-long = ap length commitments-are ∙ commitments-length (passes o) (domainOf o) (o .system) (k .good) (St.secretOf o) (d .lent)
 
-    reply-long : length (sentReply (lending o d) (d .challenge)) ≡ replyLength (o .scheme) (nOf (o .system)) (mOf (o .system))
-    unfolding St.replyOf replyLength vectorsLength rhosLength
-    reply-long =
-        ap length reply-is ∙
-        by-scheme (o .scheme) (λ three. simp three (three-reply-long (o .system) (k .good) (St.secretOf o) (d .lent) lends (d .challenge)))
-        (λ other. simp (ne-eqb (o .scheme) 3 other) (five-reply-long (o .system) (k .good) (St.secretOf o) (d .lent) lends (d .challenge)))
+    reply-long : length (sentReply (lending o d) (d .challenge)) ≡ replyLength (passes o) (nOf (o .system)) (mOf (o .system))
+    reply-long = ap length reply-is ∙ reply-length (passes o) (o .system) (k .good) (St.secretOf o) (d .lent) lends (d .challenge)
 
-    reply-below : allBelow (qOf (o .system)) (take (vectorsLength (o .scheme) (nOf (o .system)) (mOf (o .system))) (St.replyOf o (d .lent) (d .challenge))) ≡ true
-    unfolding St.replyOf vectorsLength
-    reply-below =
-        by-scheme (o .scheme) (λ three. simp three (three-reply-below (o .system) (k .good) (St.secretOf o) (d .lent) lends (d .challenge)))
-        (λ other. simp (ne-eqb (o .scheme) 3 other) (five-reply-below (o .system) (k .good) (St.secretOf o) (d .lent) lends (d .challenge)))
-
-    reply-elements : Elements (qOf (o .system)) (take (vectorsLength (o .scheme) (nOf (o .system)) (mOf (o .system))) (sentReply (lending o d) (d .challenge)))
-    reply-elements = rw reply-is (all-below-at _ _ reply-below)
+    reply-elements : Elements (qOf (o .system)) (take (vectorsLength (passes o) (nOf (o .system)) (mOf (o .system))) (sentReply (lending o d) (d .challenge)))
+    reply-elements = rw reply-is (all-below-at _ _ (reply-below (passes o) (o .system) (k .good) (St.secretOf o) (d .lent) lends (d .challenge)))
 
     middle-has-length : length (sentMiddle (lending o d) (o .system) (d .α)) ≡ nOf (o .system) + mOf (o .system)
-    unfolding St.turnOf
+    unfolding St.givenMiddle
     middle-has-length = ap length middle-is ∙ middle-long (o .system) (k .good) (d .lent) lends (d .α)
 
     middle-has-elements : Elements (qOf (o .system)) (sentMiddle (lending o d) (o .system) (d .α))
-    unfolding St.turnOf
+    unfolding St.givenMiddle
     middle-has-elements = rw middle-is (all-below-at _ _ (middle-elements (o .system) (k .good) (d .lent) lends (d .α)))
 
     -- ---- the calls between commitments and reply go
-
-    three-calls : o .scheme ≡ 3 → exchanging o d ≡ threeCalls o d
-    three-calls three = simp three
-
-    five-calls : (o .scheme ≡ 3 → ⊥) → exchanging o d ≡ fiveCalls o d
-    five-calls other = simp (ne-eqb (o .scheme) 3 other)
 
     module _ (cs : List Call) (r : ℕ) (rest : (later : World) → Replied d later r → Plays o later cs) where
       -- challenge and reply
@@ -201,13 +205,13 @@ module _ (o : Opening) (k : Opens o) where
           })))
 
       -- α, t1 and e1
-      middle : (g : Given) (a : Asked) (t : Taken) (j : Log Judgement) (c m : List ℕ) → (o .scheme ≡ 3 → ⊥) →
+      middle : (g : Given) (a : Asked) (t : Taken) (j : Log Judgement) (c m : List ℕ) → passes o ≡ FivePass →
           Link o (both (heldCard o (o .system) AnswerAlpha r (d .lent)) (carrierAt o SetAlpha r c m 0) r g a t j) →
           Plays o (both (heldCard o (o .system) AnswerAlpha r (d .lent)) (carrierAt o SetAlpha r c m 0) r g a t j)
           (setting o d ∷ answering o d ∷ taking-middle o d ∷ asking o d ∷ replying o d ∷ cs)
       unfolding AtPhase Fitting Unaltered effect heldCard cardWith openedCard answeredCard heldLent CardCalls.phaseNumber carrierAt carrierWith openedCarrier withAlpha withMiddle CarrierCalls.phaseNumber
-      middle g a t j c m other l =
-          let element = fits .alpha-element other in
+      middle g a t j c m five l =
+          let element = fits .alpha-element (five-has-alpha (passes o) five) in
           goes _ _ _ l refl element tt
           (λ n1 l1. goes _ _ _ l1 refl (refl, refl, element) (refl, put-there _ r _)
           (λ n2 l2. goes _ _ _ l2 refl (middle-has-length, middle-has-elements) (put-there _ r _ ∙ ap some (sent-middle-is o AnswerAlpha r (d .lent) (d .α) ∙ sym middle-is))
@@ -236,15 +240,17 @@ module _ (o : Opening) (k : Opens o) where
           same-ends r _ _ _ _ (s .card-is ∙ ap (λ (p : CardPhase). heldCard o (o .system) p r (d .lent)) e) (s .carrier-is)) (s .linked)
 
       exchanged : (w : World) → Committed d w r → Plays o w (exchanging o d ++ cs)
+      unfolding exchangeCalls
       exchanged w s =
-          by-scheme (o .scheme)
+          by-scheme (passes o)
           (λ three.
-          subst (λ (calls : List Call). Plays o w (calls ++ cs)) (sym (three-calls three))
-          (starting w _ Reply (rw three) s (λ l. begun _ _ _ _ Reply SetChallenge _ (rw three) (s .given) l (λ t′ c l′. ending _ _ t′ _ c _ l′))))
-          (λ other.
-          let test = ne-eqb (o .scheme) 3 other in
-          subst (λ (calls : List Call). Plays o w (calls ++ cs)) (sym (five-calls other))
-          (starting w _ AnswerAlpha (rw test) s (λ l. begun _ _ _ _ AnswerAlpha SetAlpha _ (rw test) (s .given) l (λ t′ c l′. middle _ _ t′ _ c _ other l′))))
+          subst (λ (scheme : Scheme). Plays o w (exchangeCalls o d scheme ++ cs)) (sym three)
+          (starting w _ Reply (Cd.three-behind (passes o) three) s (λ l.
+          begun _ _ _ _ Reply SetChallenge _ (Ca.three-behind (passes o) three) (s .given) l (λ t′ c l′. ending _ _ t′ _ c _ l′))))
+          (λ five.
+          subst (λ (scheme : Scheme). Plays o w (exchangeCalls o d scheme ++ cs)) (sym five)
+          (starting w _ AnswerAlpha (Cd.five-behind (passes o) five) s (λ l.
+          begun _ _ _ _ AnswerAlpha SetAlpha _ (Ca.five-behind (passes o) five) (s .given) l (λ t′ c l′. middle _ _ t′ _ c _ five l′))))
 
     -- ---- the reply is taken
 
@@ -339,33 +345,33 @@ module _ (o : Opening) (k : Opens o) where
       ahead-plays d ds 0 _ fit (omega (arith, all))
       (record { linked = l1; card-round = refl; carrier-round = refl; card-is = card-is; carrier-is = e .carrier-fresh (k .some-rounds); given = given }) fits)
 
-pub plays-honest : (o : Opening) (w : World) (cs : List Call) → Plays o w cs → Honest o w cs
+pub plays-honest : (o : Terms) (w : World) (cs : List Call) → Plays o w cs → Honest o w cs
 unfolding Plays Honest
 plays-honest o w [] played = tt
 plays-honest o w (c ∷ cs) (none, same, rest) = (λ e. same, plays-honest o (step w c) cs rest)
 
-taken-all : (o : Opening) (w : World) (cs : List Call) → Plays o w cs → after w cs .history .carrierRound ≡ o .rounds
+taken-all : (o : Terms) (w : World) (cs : List Call) → Plays o w cs → after w cs .history .carrierRound ≡ o .rounds
 unfolding Plays after
 taken-all o w [] played = played
 taken-all o w (c ∷ cs) (none, same, rest) = taken-all o (step w c) cs rest
 
-at-the-end : (o : Opening) (w : World) (cs : List Call) → Holds o w cs → Ended o (after w cs)
+at-the-end : (o : Terms) (w : World) (cs : List Call) → Holds o w cs → Ended o (after w cs)
 unfolding Holds after
 at-the-end o w [] holds = holds
 at-the-end o w (c ∷ cs) (ended, goes-on, accepted, rest) = at-the-end o (step w c) cs rest
 
 -- the calls of N rounds are played through, for every opening that document 01 lets through and whatever is drawn
-pub whole-session : (o : Opening) → Openable o → (draws : List Draw) → length draws ≡ o .rounds → AllFit o draws → Plays o (opened o) (sessionCalls o draws)
+pub whole-session : (o : Terms) → Openable o → (draws : List Draw) → length draws ≡ o .rounds → AllFit o draws → Plays o (opened o) (sessionCalls o draws)
 whole-session o openable draws all fits =
     let k = opens o (card-opens-for o openable) in
     rounds-play o k draws 0 (opened o) (omega (arith, all)) (opened-reached o k) fits
 
 -- and so they are with the card a round ahead
-pub ahead-session : (o : Opening) → Openable o → (draws : List Draw) → length draws ≡ o .rounds → AllFit o draws → Plays o (opened o) (aheadCalls o draws)
+pub ahead-session : (o : Terms) → Openable o → (draws : List Draw) → length draws ≡ o .rounds → AllFit o draws → Plays o (opened o) (aheadCalls o draws)
 ahead-session o openable = ahead-from-start o (opens o (card-opens-for o openable))
 
 -- a session that is played through ends as accepted with the count N, the card's closed
-pub played-accepted : (o : Opening) → Openable o → (calls : List Call) → Plays o (opened o) calls →
+pub played-accepted : (o : Terms) → Openable o → (calls : List Call) → Plays o (opened o) calls →
     (after (opened o) calls .carrier ≡ CarrierCalls.closedCarrier Accepted (o .rounds)) × (after (opened o) calls .card ≡ CardCalls.closedCard)
 unfolding Ended
 played-accepted o openable calls played =
@@ -374,10 +380,10 @@ played-accepted o openable calls played =
 
 -- "The random elements, α and the challenges are any.": whatever is drawn, round by round, with right lengths, elements and challenge, its session exists, with
 -- the card a round ahead or not
-pub any-session : (o : Opening) → Openable o → (draw : ℕ → Draw) →
-    ((r : ℕ) → length (draw r .lent) ≡ nOf (o .system) + nOf (o .system) + mOf (o .system) + commitmentsLength (o .scheme)) →
-    ((r : ℕ) → Elements (qOf (o .system)) (take (nOf (o .system) + nOf (o .system) + mOf (o .system)) (draw r .lent))) →
-    ((r : ℕ) → (o .scheme ≡ 3 → ⊥) → draw r .α < qOf (o .system)) → ((r : ℕ) → draw r .challenge < challenges (o .scheme)) →
+pub any-session : (o : Terms) → Openable o → (draw : ℕ → Draw) →
+    ((r : ℕ) → length (draw r .lent) ≡ lentLength (passes o) (nOf (o .system)) (mOf (o .system))) →
+    ((r : ℕ) → Elements (qOf (o .system)) (take (drawnLength (passes o) (nOf (o .system)) (mOf (o .system))) (draw r .lent))) →
+    ((r : ℕ) → hasAlpha (passes o) ≡ true → draw r .α < qOf (o .system)) → ((r : ℕ) → draw r .challenge < challenges (passes o)) →
     Plays o (opened o) (sessionCalls o (drawsFrom draw 0 (o .rounds))) × Plays o (opened o) (aheadCalls o (drawsFrom draw 0 (o .rounds)))
 any-session o openable draw long elements alpha value =
     let all = length-draws draw 0 (o .rounds) in
@@ -386,7 +392,7 @@ any-session o openable draw long elements alpha value =
     (whole-session o openable _ all fit, ahead-session o openable _ all fit)
 
 -- so every opening that document 01 lets through has both kinds of session: of zeros
-pub some-session : (o : Opening) → Openable o →
+pub some-session : (o : Terms) → Openable o →
     let zeros-drawn = drawsFrom (λ r. zeroDraw o) 0 (o .rounds) in
     Plays o (opened o) (sessionCalls o zeros-drawn) × Plays o (opened o) (aheadCalls o zeros-drawn)
 some-session o openable =

@@ -2,14 +2,14 @@
 use mathlib.Core.Path.{_≡_, refl, sym, subst}
 use mathlib.Core.List.{List, [], _∷_, _++_}
 use Rattle.refusal.proofs.Refusals.{kept-refused}
-use Rattle.session.specs.Session.{Opening, Call, World, refusal, effect, step, after}
+use Rattle.session.specs.Session.{Terms, Call, World, refusal, effect, step, after}
 use Rattle.session.specs.Honest.{Unaltered, Drawn, any-lent, any-alpha, any-challenge, Honest}
 
 pub refused-stays : (w : World) (c : Call) → (refusal w c ≡ 0 → ⊥) → step w c ≡ w
 unfolding step
 refused-stays w c some = kept-refused (refusal w c) w (effect w c) some
 
-pub refused-anywhere : (o : Opening) (w : World) (before later : List Call) (c : Call) → (refusal (after w before) c ≡ 0 → ⊥) → Honest o w (before ++ later) →
+pub refused-anywhere : (o : Terms) (w : World) (before later : List Call) (c : Call) → (refusal (after w before) c ≡ 0 → ⊥) → Honest o w (before ++ later) →
     Honest o w (before ++ c ∷ later)
 unfolding Honest after
 refused-anywhere o w [] later c some honest =
@@ -17,7 +17,7 @@ refused-anywhere o w [] later c some honest =
 refused-anywhere o w (b ∷ before) later c some (unaltered, rest) = (unaltered, refused-anywhere o (step w b) before later c some rest)
 
 -- "The random elements, α and the challenges are any.": an honest list stays honest with such a call behind it
-pub drawn-behind : (o : Opening) (w : World) (before : List Call) (c : Call) → Drawn o c → Honest o w before → Honest o w (before ++ c ∷ [])
+pub drawn-behind : (o : Terms) (w : World) (before : List Call) (c : Call) → Drawn o c → Honest o w before → Honest o w (before ++ c ∷ [])
 unfolding Honest Unaltered
 drawn-behind o w [] _ (any-lent lent out) honest = (λ none. refl, tt)
 drawn-behind o w [] _ (any-alpha α) honest = (λ none. tt, tt)

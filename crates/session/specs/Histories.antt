@@ -6,8 +6,9 @@ use mathlib.Core.Bool.{Bool, false, cond}
 use mathlib.Core.List.{List, [], _∷_}
 use mathlib.Core.Logic.{_⊎_, _↔_}
 use mathlib.Core.Option.{Option, some, none}
-use lib.Dec.{eqb}
 use Rattle.field.specs.Vector.{asVector}
+use Rattle.scheme.specs.declared.Scheme.{Scheme}
+use Rattle.scheme.specs.declared.Scheme.the-variants.{ThreePass, FivePass}
 use Rattle.exchange.specs.Messages.{accepts}
 use Rattle.session_state.specs.declared.Verdict.the-variants.{Accepted, Rejected}
 use Rattle.card_state.specs.declared.session.CardPhase.{CardPhase}
@@ -18,30 +19,31 @@ use Rattle.carrier_state.specs.declared.session.CarrierPhase.{CarrierPhase}
 use Rattle.carrier_state.specs.declared.session.CarrierPhase.the-variants.{TakeCommitments, SetAlpha, TakeMiddle, SetChallenge, TakeReply}
 use Rattle.carrier_state.specs.declared.session.CarrierPhase.the-variants as CarrierPhases
 use Rattle.carrier_state.specs.Carrier as CarrierCalls
-use Rattle.session.specs.Session.{Opening, Call, commit, answerAlpha, reply, takeCommitments, setAlpha, takeMiddle, setChallenge, takeReply, Log}
+use Rattle.session.specs.Session.{Terms, passes, domainOf}
+use Rattle.session.specs.Session.{Call, commit, answerAlpha, reply, takeCommitments, setAlpha, takeMiddle, setChallenge, takeReply, Log}
 use Rattle.session.specs.Session.{Judgement, History, World, refusal}
 
 -- ---- the check of what was taken
 
 -- what stands between commitments and challenge: nothing, or α, t1 and e1
-pub data Middle (o : Opening) (alphas : Log ℕ) (middles : Log (List ℕ)) (r : ℕ) : List ℕ → Type 0 where
-  none-sent : o .scheme ≡ 3 → Middle o alphas middles r []
-  sent : (o .scheme ≡ 3 → ⊥) → (α : ℕ) (l : List ℕ) → alphas r ≡ some α → middles r ≡ some l → Middle o alphas middles r (α ∷ l)
+unfoldable pub Turn : Scheme → Log ℕ → Log (List ℕ) → ℕ → List ℕ → Type 0
+Turn ThreePass alphas middles r turn = turn ≡ []
+Turn FivePass alphas middles r turn = (α : ℕ) × (l : List ℕ) × (alphas r ≡ some α) × (middles r ≡ some l) × (turn ≡ α ∷ l)
 
--- "Taking a reply answers accept or reject.": the answer is the scheme's check, with the opening's scheme and key, of the very messages that the carrier took
+-- "Taking a reply answers accept or reject.": the answer is the scheme's check, with the terms' scheme and key, of the very messages that the carrier took
 -- and set for the round
-pub record JudgedByCheck (o : Opening) (h : History) (r : ℕ) : Type 0 where
+pub record JudgedByCheck (o : Terms) (h : History) (r : ℕ) : Type 0 where
   pub commitments : List ℕ
-  pub middle : List ℕ
+  pub turn : List ℕ
   pub challenge : ℕ
   pub system : List ℕ
   pub reply : List ℕ
   pub answer : Bool
   pub commitments-taken : h .taken .commitments r ≡ some commitments
-  pub middle-taken : Middle o (h .asked .alphas) (h .taken .middles) r middle
+  pub turn-taken : Turn (passes o) (h .asked .alphas) (h .taken .middles) r turn
   pub challenge-set : h .asked .challenges r ≡ some challenge
   pub reply-judged : h .judged r ≡ some (record { system = system; reply = reply; answer = answer })
-  pub by-check : answer ≡ accepts system (o .scheme) (asVector (o .key)) commitments middle challenge reply
+  pub by-check : answer ≡ accepts system (domainOf o) (asVector (o .key)) commitments turn challenge reply
 
 -- ---- the count
 
@@ -57,7 +59,7 @@ acceptCount judged (suc k) = acceptCount judged k + acceptOf (judged k)
 -- ---- when a session is over
 
 -- "After round N the card's session is closed": N replies were given
-abbrev pub CardOver : Opening → History → Type 0
+abbrev pub CardOver : Terms → History → Type 0
 CardOver o h = h .cardRound ≡ o .rounds
 
 -- "A rejected round closes the session as rejected"
@@ -65,10 +67,10 @@ abbrev pub RejectedOne : History → Type 0
 RejectedOne h = (r : ℕ) × (j : Judgement) × (h .judged r ≡ some j) × (j .answer ≡ false)
 
 -- "the N-th accepted round closes it as accepted"
-abbrev pub AcceptedAll : Opening → History → Type 0
+abbrev pub AcceptedAll : Terms → History → Type 0
 AcceptedAll o h = acceptCount (h .judged) (h .carrierRound) ≡ o .rounds
 
-abbrev pub CarrierOver : Opening → History → Type 0
+abbrev pub CarrierOver : Terms → History → Type 0
 CarrierOver o h = RejectedOne h ⊎ AcceptedAll o h
 
 -- ---- which call is due
@@ -82,14 +84,9 @@ pub data Next {A : Type 0} (Made : A → Type 0) : List A → A → Type 0 where
   later : (a b : A) (rest : List A) → Made a → Next Made rest b → Next Made (a ∷ rest) b
 
 -- "then per round commit and reply, in scheme 5 with the reply to α between"
-abbrev pub cardThree : List CardPhase
-cardThree = Commit ∷ Reply ∷ []
-
-abbrev pub cardFive : List CardPhase
-cardFive = Commit ∷ AnswerAlpha ∷ Reply ∷ []
-
-unfoldable pub cardOrder : ℕ → List CardPhase
-cardOrder scheme = cond (eqb scheme 3) cardThree cardFive
+unfoldable pub cardOrder : Scheme → List CardPhase
+cardOrder ThreePass = Commit ∷ Reply ∷ []
+cardOrder FivePass = Commit ∷ AnswerAlpha ∷ Reply ∷ []
 
 -- made: what it gives was given in this round
 unfoldable pub CardMade : History → CardPhase → Type 0
@@ -99,14 +96,9 @@ CardMade h Reply = IsGiven (h .given .replies (h .cardRound))
 CardMade h (CardPhases.Closed verdict) = ⊥
 
 -- "then per round take commitments, set α (scheme 5), take t1 and e1 (scheme 5), set challenge, take reply"
-abbrev pub carrierThree : List CarrierPhase
-carrierThree = TakeCommitments ∷ SetChallenge ∷ TakeReply ∷ []
-
-abbrev pub carrierFive : List CarrierPhase
-carrierFive = TakeCommitments ∷ SetAlpha ∷ TakeMiddle ∷ SetChallenge ∷ TakeReply ∷ []
-
-unfoldable pub carrierOrder : ℕ → List CarrierPhase
-carrierOrder scheme = cond (eqb scheme 3) carrierThree carrierFive
+unfoldable pub carrierOrder : Scheme → List CarrierPhase
+carrierOrder ThreePass = TakeCommitments ∷ SetChallenge ∷ TakeReply ∷ []
+carrierOrder FivePass = TakeCommitments ∷ SetAlpha ∷ TakeMiddle ∷ SetChallenge ∷ TakeReply ∷ []
 
 -- made: what it takes or sets was taken or set in this round
 unfoldable pub CarrierMade : History → CarrierPhase → Type 0
@@ -137,34 +129,34 @@ OnCard (on-card phase) = Unit
 OnCard (on-carrier phase) = ⊥
 
 -- the session of that end is over
-unfoldable pub OverAt : Opening → History → Place → Type 0
+unfoldable pub OverAt : Terms → History → Place → Type 0
 OverAt o h (on-card phase) = CardOver o h
 OverAt o h (on-carrier phase) = CarrierOver o h
 
 -- the call of that phase is next in the round
-unfoldable pub NextAt : Opening → History → Place → Type 0
-NextAt o h (on-card phase) = Next (CardMade h) (cardOrder (o .scheme)) phase
-NextAt o h (on-carrier phase) = Next (CarrierMade h) (carrierOrder (o .scheme)) phase
+unfoldable pub NextAt : Terms → History → Place → Type 0
+NextAt o h (on-card phase) = Next (CardMade h) (cardOrder (passes o)) phase
+NextAt o h (on-carrier phase) = Next (CarrierMade h) (carrierOrder (passes o)) phase
 
 -- a call is due where its end's session is not over and it is next in the round
-abbrev pub DueAt : Opening → History → Place → Type 0
+abbrev pub DueAt : Terms → History → Place → Type 0
 DueAt o h place = (OverAt o h place → ⊥) × NextAt o h place
 
-abbrev pub IsOver : Opening → History → Call → Type 0
+abbrev pub IsOver : Terms → History → Call → Type 0
 IsOver o h c = OverAt o h (placeOf c)
 
-abbrev pub IsDue : Opening → History → Call → Type 0
+abbrev pub IsDue : Terms → History → Call → Type 0
 IsDue o h c = DueAt o h (placeOf c)
 
 -- ---- what is claimed
 
 -- of a call: "10 a call that isn't the one due. 11 a closed session."
-pub record StateRefusals (o : Opening) (w : World) (c : Call) : Type 0 where
+pub record StateRefusals (o : Terms) (w : World) (c : Call) : Type 0 where
   pub eleven-exactly : (refusal w c ≡ 11) ↔ IsOver o (w .history) c
   pub ten-exactly : (refusal w c ≡ 10) ↔ ((IsOver o (w .history) c → ⊥) × (IsDue o (w .history) c → ⊥))
 
 -- of the carrier, whose opening was not refused
-pub record CarrierClaim (o : Opening) (w : World) : Type 0 where
+pub record CarrierClaim (o : Terms) (w : World) : Type 0 where
   -- each round that is over was judged by the scheme's check of what was taken and set for it, and no other was judged
   pub judged : (r : ℕ) → r < w .history .carrierRound → JudgedByCheck o (w .history) r
   pub unjudged : (r : ℕ) → IsGiven (w .history .judged r) → r < w .history .carrierRound
@@ -173,14 +165,16 @@ pub record CarrierClaim (o : Opening) (w : World) : Type 0 where
   pub rejected-exactly : (w .carrier .phase ≡ CarrierPhases.Closed Rejected) ↔ RejectedOne (w .history)
   pub accepted-exactly : (w .carrier .phase ≡ CarrierPhases.Closed Accepted) ↔ AcceptedAll o (w .history)
   -- "The closed session keeps the verdict and the count of accepted rounds. Its other numbers are zero."
-  pub rejected-keeps : RejectedOne (w .history) → w .carrier ≡ CarrierCalls.closedCarrier Rejected (acceptCount (w .history .judged) (w .history .carrierRound))
+  pub rejected-keeps :
+      RejectedOne (w .history) → w .carrier ≡ CarrierCalls.closedCarrier Rejected (acceptCount (w .history .judged) (w .history .carrierRound))
   pub accepted-keeps : AcceptedAll o (w .history) → w .carrier ≡ CarrierCalls.closedCarrier Accepted (o .rounds)
   -- "The next call due is held as one of a few named phases."
-  pub phase-is : (phase : CarrierPhase) → (CarrierCalls.phaseNumber phase ≡ 0 → ⊥) → (w .carrier .phase ≡ phase) ↔ DueAt o (w .history) (on-carrier phase)
+  pub phase-is :
+      (phase : CarrierPhase) → (CarrierCalls.phaseNumber phase ≡ 0 → ⊥) → (w .carrier .phase ≡ phase) ↔ DueAt o (w .history) (on-carrier phase)
   pub state-refusals : (c : Call) → (OnCard (placeOf c) → ⊥) → StateRefusals o w c
 
 -- of the card, whose opening was not refused
-pub record CardClaim (o : Opening) (w : World) : Type 0 where
+pub record CardClaim (o : Terms) (w : World) : Type 0 where
   pub replies-given : (r : ℕ) → IsGiven (w .history .given .replies r) ↔ (r < w .history .cardRound)
   -- "After round N the card's session is closed and every number in it is zero.", and no sooner
   pub closed-exactly : (w .card ≡ CardCalls.closedCard) ↔ CardOver o (w .history)

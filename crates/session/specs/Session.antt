@@ -6,18 +6,29 @@ use mathlib.Core.List.{List, [], _∷_}
 use mathlib.Core.Option.{Option, some, none}
 use lib.Dec.{eqb}
 use Rattle.refusal.specs.Refusal.{kept}
+use Rattle.scheme.specs.declared.Scheme.{Scheme}
+use Rattle.scheme.specs.Scheme.{schemeOf}
+use Rattle.commitment.specs.declared.Domain.{Domain}
 use Rattle.card_state.specs.declared.session.Card.{Card}
 use Rattle.card_state.specs.Card as CardCalls
 use Rattle.carrier_state.specs.declared.session.Carrier.{Carrier}
 use Rattle.carrier_state.specs.Carrier as CarrierCalls
 
 -- what both ends are opened with: "the same system, scheme, N and v, where F(s) = v"
-pub record Opening : Type 0 where
+pub record Terms : Type 0 where
   pub system : List ℕ
   pub scheme : ℕ
   pub rounds : ℕ
   pub key : List ℕ
   pub secret : List ℕ
+
+-- the scheme of that byte
+abbrev pub passes : Terms → Scheme
+passes o = schemeOf (o .scheme)
+
+-- what stands before ρ in every string that is hashed in the session
+abbrev pub domainOf : Terms → Domain
+domainOf o = record { scheme = passes o }
 
 -- "the card's commit, reply to α and reply; the carrier's taking of commitments, setting of α, taking of t1 and e1, setting of the challenge and taking of
 -- a reply"; an output is given by its length
@@ -77,7 +88,7 @@ pub record World : Type 0 where
   pub history : History
 
 -- "both just opened"
-unfoldable pub opened : Opening → World
+unfoldable pub opened : Terms → World
 opened o =
     record {
       card = CardCalls.openedCard (o .system) (o .scheme) (o .rounds) (o .secret);

@@ -13,14 +13,14 @@ use Rattle.system.proofs.SystemLayout.{well-formed, all-below-at}
 use Rattle.session_state.specs.declared.Verdict.the-variants.{Accepted}
 use Rattle.card_state.specs.Card as CardCalls
 use Rattle.carrier_state.specs.Carrier as CarrierCalls
-use Rattle.session.specs.Session.{Opening, Call, opened, after}
+use Rattle.session.specs.Session.{Terms, Call, opened, after}
 use Rattle.session.specs.Honest.{Honest}
 use Rattle.session.specs.Played.{Openable}
 use Rattle.session.proofs.PlayedSession.{some-session, plays-honest, played-accepted}
 use Rattle.small_key.specs.SmallKey.{key, s, v}
 
-abbrev pub smallOpening : ℕ → ℕ → Opening
-smallOpening scheme rounds = record { system = key; scheme = scheme; rounds = rounds; key = v; secret = s }
+abbrev pub smallTerms : ℕ → ℕ → Terms
+smallTerms scheme rounds = record { system = key; scheme = scheme; rounds = rounds; key = v; secret = s }
 
 not-refused : systemRefusal key ≡ 0
 unfolding systemRefusal areSizes isSize systemLength unless _orElse_ isField width triangle allBelow
@@ -30,7 +30,7 @@ key-of-secret : F key (asVector s) ≡ asVector v
 unfolding F quadratic linear width triangle polynomial pairs sum vector tabulate ops remainders modulus isField
 key-of-secret = refl
 
-pub small-key-opens : (scheme rounds : ℕ) → (scheme ≡ 3) ⊎ (scheme ≡ 5) → 1 ≤ rounds → rounds ≤ 255 → Openable (smallOpening scheme rounds)
+pub small-key-opens : (scheme rounds : ℕ) → (scheme ≡ 3) ⊎ (scheme ≡ 5) → 1 ≤ rounds → rounds ≤ 255 → Openable (smallTerms scheme rounds)
 unfolding allBelow
 small-key-opens scheme rounds which some most =
     record {
@@ -49,16 +49,16 @@ small-key-opens scheme rounds which some most =
     }
 
 -- an honest list of calls that ends both sessions as document 01 says
-pub record WholeSession (o : Opening) : Type 0 where
+pub record WholeSession (o : Terms) : Type 0 where
   pub calls : List Call
   pub honest : Honest o (opened o) calls
   pub accepted : after (opened o) calls .carrier ≡ CarrierCalls.closedCarrier Accepted (o .rounds)
   pub closed : after (opened o) calls .card ≡ CardCalls.closedCard
 
 -- there is one for every N and both schemes
-pub small-key-session : (scheme rounds : ℕ) → (scheme ≡ 3) ⊎ (scheme ≡ 5) → 1 ≤ rounds → rounds ≤ 255 → WholeSession (smallOpening scheme rounds)
+pub small-key-session : (scheme rounds : ℕ) → (scheme ≡ 3) ⊎ (scheme ≡ 5) → 1 ≤ rounds → rounds ≤ 255 → WholeSession (smallTerms scheme rounds)
 small-key-session scheme rounds which some most =
-    let o = smallOpening scheme rounds in
+    let o = smallTerms scheme rounds in
     let openable = small-key-opens scheme rounds which some most in
     let played = some-session o openable .0 in
     let ends = played-accepted o openable _ played in
