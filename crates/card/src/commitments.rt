@@ -55,7 +55,10 @@ fn commit_five<'a>(card: Card, system: &'a [u8], lent: &'a [u8], out: &mut [u8])
     let t0 = l.t0;
     let e0 = l.e0;
     let rhos = l.rhos;
-    write_five_commitments(commitments_five(card_domain(card), system, s, r0, t0, e0, rhos), out);
+    write_five_commitments(
+        commitments_five(card_domain(card), system, s, r0, t0, e0, rhos),
+        out,
+    );
     card_with(card, CardPhase::AnswerAlpha, card.round, l, [0; 96])
 }
 

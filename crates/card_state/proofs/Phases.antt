@@ -4,13 +4,15 @@ use mathlib.Core.Path.{_≡_, refl}
 use mathlib.Core.Bool.{Bool, true, false, cond}
 use mathlib.Core.List.{List, _++_, _∷_, []}
 use native.Mathlib.Omega.{arith}
-use lib.Dec.{eqb, ltb}
+use lib.Dec.{ltb}
 use borrow.Author.Tests.{lt-ltb, le-ltb}
 use Rattle.slices.specs.Slices.{zeros}
+use Rattle.scheme.specs.declared.Scheme.the-variants.{ThreePass}
+use Rattle.scheme.specs.Scheme.{hasAlpha}
 use Rattle.session_state.specs.State.{nextCount}
 use Rattle.card_state.specs.declared.session.CardPhase.the-variants.{AnswerAlpha, Reply}
 use Rattle.card_state.specs.declared.session.Card.{Card}
-use Rattle.card_state.specs.Card.{phaseNumber, closedCard, noLent, cardWith, openedCard, committedCard, answeredCard, nextCard, repliedCard}
+use Rattle.card_state.specs.Card.{phaseNumber, noRhos, noLent, closedCard, cardWith, openedCard, behindCommit, committedCard, answeredCard, nextCard, repliedCard}
 
 -- the session is not closed
 abbrev pub Open : Card → Type 0
@@ -21,10 +23,10 @@ unfolding openedCard phaseNumber
 opened-open b scheme rounds s e = absurd (omega arith)
 
 pub committed-open : (card : Card) (b lent : List ℕ) → Open (committedCard card b lent)
-unfolding committedCard cardWith phaseNumber
-committed-open card b lent = go (eqb (card .scheme) 3)
+unfolding committedCard cardWith behindCommit phaseNumber
+committed-open card b lent = go (hasAlpha (card .scheme))
   where
-    go : (t : Bool) → phaseNumber (cond t Reply AnswerAlpha) ≡ 0 → ⊥
+    go : (t : Bool) → phaseNumber (cond t AnswerAlpha Reply) ≡ 0 → ⊥
     go true e = absurd (omega arith)
     go false e = absurd (omega arith)
 
@@ -44,21 +46,21 @@ last-closes card last = simp (le-ltb (nextCount (card .round)) (card .rounds) la
 -- every number of a card, one behind the other
 unfoldable pub numbers : Card → List ℕ
 numbers card =
-    (phaseNumber (card .phase) ∷ card .scheme ∷ card .q ∷ card .n ∷ card .m ∷ card .rounds ∷ card .round ∷ []) ++ card .s ++ card .r0 ++ card .t0 ++ card .e0 ++
-    card .e1 ++ card .rho0 ++ card .rho1 ++ card .rho2
+    (phaseNumber (card .phase) ∷ card .q ∷ card .n ∷ card .m ∷ card .rounds ∷ card .round ∷ []) ++ card .s ++ card .r0 ++ card .t0 ++ card .e0 ++ card .e1 ++
+    card .rhos .rho0 ++ card .rhos .rho1 ++ card .rhos .rho2
 
--- "every number in it is zero"
-pub closed-zero : numbers closedCard ≡ zeros 583
-unfolding numbers closedCard phaseNumber zeros
-closed-zero = refl
+-- "every number in it is zero", and the scheme, which is no number, is the first
+pub closed-zero : (numbers closedCard ≡ zeros 582) × (closedCard .scheme ≡ ThreePass)
+unfolding numbers closedCard noRhos phaseNumber zeros
+closed-zero = (refl, refl)
 
 -- what is held for a round, one behind the other: its vectors and ρ
 unfoldable pub roundNumbers : Card → List ℕ
-roundNumbers card = card .r0 ++ card .t0 ++ card .e0 ++ card .e1 ++ card .rho0 ++ card .rho1 ++ card .rho2
+roundNumbers card = card .r0 ++ card .t0 ++ card .e0 ++ card .e1 ++ card .rhos .rho0 ++ card .rhos .rho1 ++ card .rhos .rho2
 
 -- "A reply zeroes that round's vectors and ρ.", the last reply too
 pub replied-zero : (card : Card) → roundNumbers (repliedCard card) ≡ zeros 480
-unfolding roundNumbers repliedCard nextCard cardWith noLent closedCard zeros
+unfolding roundNumbers repliedCard nextCard cardWith noLent noRhos closedCard zeros
 replied-zero card = go (ltb (nextCount (card .round)) (card .rounds))
   where
     go : (more : Bool) → roundNumbers (cond more (nextCard card) closedCard) ≡ zeros 480

@@ -2,48 +2,51 @@
 use Prim.Native.Nat.{ℕ, _+_}
 use mathlib.Core.Path.{_≡_}
 use mathlib.Core.List.{List}
-use borrow.Author.Tests.{ne-eqb}
 use Rattle.slices.specs.Slices.{zeros}
 use Rattle.system.specs.System.{nOf, mOf}
-use Rattle.scheme.specs.Scheme.{commitmentsLength, vectorsLength, rhosLength, replyLength}
+use Rattle.scheme.specs.declared.Scheme.{Scheme}
+use Rattle.scheme.specs.declared.Scheme.the-variants.{ThreePass, FivePass}
+use Rattle.scheme.specs.Scheme.{commitmentCount, openedCount, hasAlpha, commitmentsLength, vectorsLength, rhosLength, replyLength}
 use Rattle.exchange.specs.Messages.{lentIn, threeCommitments, fiveCommitments}
 use Rattle.exchange.specs.Card.{threeVectors, threeCommitted, fiveCommitted}
 use Rattle.card_state.specs.declared.session.CardPhase.the-variants.{AnswerAlpha, Reply}
 use Rattle.card_state.specs.declared.session.Card.{Card}
-use Rattle.card_state.specs.Card.{cardWith, committedCard, sentCommitments}
+use Rattle.card_state.specs.Card.{cardDomain, cardWith, behindCommit, keptE1, committedCard, commitmentsOf, sentCommitments}
 
-pub committed-three : (card : Card) (b lent : List ℕ) → card .scheme ≡ 3 →
+pub committed-three : (card : Card) (b lent : List ℕ) → card .scheme ≡ ThreePass →
     committedCard card b lent ≡ cardWith card Reply (card .round) (lentIn (nOf b) (mOf b) lent) (threeVectors b (card .s) lent .e1)
-unfolding committedCard
-committed-three card b lent e = simp e
+unfolding committedCard behindCommit keptE1 hasAlpha
+committed-three card b lent three = simp three
 
-pub committed-five : (card : Card) (b lent : List ℕ) → (card .scheme ≡ 3 → ⊥) →
+pub committed-five : (card : Card) (b lent : List ℕ) → card .scheme ≡ FivePass →
     committedCard card b lent ≡ cardWith card AnswerAlpha (card .round) (lentIn (nOf b) (mOf b) lent) (zeros 96)
-unfolding committedCard
-committed-five card b lent other = simp (ne-eqb (card .scheme) 3 other)
+unfolding committedCard behindCommit keptE1 hasAlpha
+committed-five card b lent five = simp five
 
-pub sent-three : (card : Card) (b lent : List ℕ) → card .scheme ≡ 3 → sentCommitments card b lent ≡ threeCommitments (threeCommitted b (card .s) lent)
-unfolding sentCommitments
-sent-three card b lent e = simp e
+pub sent-three : (card : Card) (b lent : List ℕ) → card .scheme ≡ ThreePass →
+    sentCommitments card b lent ≡ threeCommitments (threeCommitted (cardDomain card) b (card .s) lent)
+unfolding sentCommitments commitmentsOf
+sent-three card b lent three = simp three
 
-pub sent-five : (card : Card) (b lent : List ℕ) → (card .scheme ≡ 3 → ⊥) → sentCommitments card b lent ≡ fiveCommitments (fiveCommitted b (card .s) lent)
-unfolding sentCommitments
-sent-five card b lent other = simp (ne-eqb (card .scheme) 3 other)
+pub sent-five : (card : Card) (b lent : List ℕ) → card .scheme ≡ FivePass →
+    sentCommitments card b lent ≡ fiveCommitments (fiveCommitted (cardDomain card) b (card .s) lent)
+unfolding sentCommitments commitmentsOf
+sent-five card b lent five = simp five
 
 -- ---- lengths by the scheme
 
-pub three-commitments : (scheme : ℕ) → scheme ≡ 3 → commitmentsLength scheme ≡ 96
-unfolding commitmentsLength
-three-commitments scheme e = rw e
+pub three-commitments : (scheme : Scheme) → scheme ≡ ThreePass → commitmentsLength scheme ≡ 96
+unfolding commitmentsLength commitmentCount
+three-commitments scheme three = rw three
 
-pub five-commitments : (scheme : ℕ) → (scheme ≡ 3 → ⊥) → commitmentsLength scheme ≡ 64
-unfolding commitmentsLength
-five-commitments scheme other = rw (ne-eqb scheme 3 other)
+pub five-commitments : (scheme : Scheme) → scheme ≡ FivePass → commitmentsLength scheme ≡ 64
+unfolding commitmentsLength commitmentCount
+five-commitments scheme five = rw five
 
-pub three-reply : (scheme n m : ℕ) → scheme ≡ 3 → replyLength scheme n m ≡ n + n + m + 64
-unfolding replyLength vectorsLength rhosLength
-three-reply scheme n m e = rw e
+pub three-reply : (scheme : Scheme) (n m : ℕ) → scheme ≡ ThreePass → replyLength scheme n m ≡ n + n + m + 64
+unfolding replyLength vectorsLength rhosLength openedCount
+three-reply scheme n m three = rw three
 
-pub five-reply : (scheme n m : ℕ) → (scheme ≡ 3 → ⊥) → replyLength scheme n m ≡ n + 32
-unfolding replyLength vectorsLength rhosLength
-five-reply scheme n m other = rw (ne-eqb scheme 3 other)
+pub five-reply : (scheme : Scheme) (n m : ℕ) → scheme ≡ FivePass → replyLength scheme n m ≡ n + 32
+unfolding replyLength vectorsLength rhosLength openedCount
+five-reply scheme n m five = rw five

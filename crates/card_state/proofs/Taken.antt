@@ -11,7 +11,7 @@ use Rattle.slices.proofs.Sameness.{same-true, same-by}
 use Rattle.refusal.proofs.Refusals.{first-zero, later-zero, test-holds, equal-holds, both-zero, unless-holds}
 use Rattle.field.specs.Vector.{asVector, allBelow}
 use Rattle.system.specs.System.{qOf, nOf, mOf, areSizes, hasSizes, systemRefusal, systemAgainst, F}
-use Rattle.scheme.specs.Scheme.{isScheme, isRounds, challenges, commitmentsLength, replyLength}
+use Rattle.scheme.specs.Scheme.{isScheme, isRounds, challenges, drawnLength, commitmentsLength, lentLength, replyLength}
 use Rattle.session_state.proofs.States.{state-due, due-state}
 use Rattle.card_state.specs.declared.session.Card.{Card}
 use Rattle.card_state.specs.Card.{phaseNumber, openForm, openRefusal, commitRefusal, alphaRefusal, replyRefusal}
@@ -66,14 +66,13 @@ pub record CommitTaken (card : Card) (b lent : List ℕ) (out : ℕ) : Type 0 wh
   pub due : phaseNumber (card .phase) ≡ 1
   pub good : systemRefusal b ≡ 0
   pub fits : hasSizes b (card .q) (card .n) (card .m) ≡ true
-  pub lent-length : length lent ≡ card .n + card .n + card .m + commitmentsLength (card .scheme)
+  pub lent-length : length lent ≡ lentLength (card .scheme) (card .n) (card .m)
   pub room : out ≡ commitmentsLength (card .scheme)
-  pub elements : allBelow (card .q) (take (card .n + card .n + card .m) lent) ≡ true
+  pub elements : allBelow (card .q) (take (drawnLength (card .scheme) (card .n) (card .m)) lent) ≡ true
 
 pub commit-taken : (card : Card) (b lent : List ℕ) (out : ℕ) → commitRefusal card b lent out ≡ 0 → CommitTaken card b lent out
 unfolding commitRefusal systemAgainst
 commit-taken card b lent out none =
-    let vectors = card .n + card .n + card .m in
     let after-state = later-zero _ _ none in
     let system = first-zero _ _ after-state in
     let after-sizes = later-zero _ _ after-state in
@@ -82,9 +81,9 @@ commit-taken card b lent out none =
       due = state-due (phaseNumber (card .phase)) 1 (first-zero _ _ none);
       good = first-zero _ _ system;
       fits = test-holds (hasSizes b (card .q) (card .n) (card .m)) 7 tt (later-zero _ _ system);
-      lent-length = equal-holds (length lent) (vectors + commitmentsLength (card .scheme)) 2 tt (first-zero _ _ after-sizes);
+      lent-length = equal-holds (length lent) (lentLength (card .scheme) (card .n) (card .m)) 2 tt (first-zero _ _ after-sizes);
       room = equal-holds out (commitmentsLength (card .scheme)) 2 tt (first-zero _ _ after-lent);
-      elements = test-holds (allBelow (card .q) (take vectors lent)) 3 tt (later-zero _ _ after-lent);
+      elements = test-holds (allBelow (card .q) (take (drawnLength (card .scheme) (card .n) (card .m)) lent)) 3 tt (later-zero _ _ after-lent);
     }
 
 pub commit-due : (card : Card) (b lent : List ℕ) (out : ℕ) → CommitTaken card b lent out → commitRefusal card b lent out ≡ 0
@@ -92,7 +91,7 @@ unfolding commitRefusal systemAgainst
 commit-due card b lent out k =
     both-zero _ _ (due-state (phaseNumber (card .phase)) 1 (k .due) (λ e. absurd (omega arith)))
     (both-zero _ _ (both-zero _ _ (k .good) (unless-holds _ 7 (k .fits)))
-    (both-zero _ _ (unless-holds _ 2 (eq-eqb (length lent) (card .n + card .n + card .m + commitmentsLength (card .scheme)) (k .lent-length)))
+    (both-zero _ _ (unless-holds _ 2 (eq-eqb (length lent) (lentLength (card .scheme) (card .n) (card .m)) (k .lent-length)))
     (both-zero _ _ (unless-holds _ 2 (eq-eqb out (commitmentsLength (card .scheme)) (k .room))) (unless-holds _ 3 (k .elements)))))
 
 -- ---- reply to α

@@ -4,15 +4,17 @@ use mathlib.Core.Path.{_≡_, refl}
 use mathlib.Core.Bool.{Bool, true, false, cond, _&&_}
 use mathlib.Core.List.{List, _∷_, _++_}
 use native.Mathlib.Omega.{arith}
-use lib.Dec.{ltb, eqb}
+use lib.Dec.{ltb}
 use borrow.Author.Tests.{le-ltb}
-use Rattle.slices.specs.Slices.{zeros}
+use Rattle.slices.specs.Slices.{tabulate, zeros}
+use Rattle.scheme.specs.declared.Scheme.the-variants.{ThreePass}
+use Rattle.scheme.specs.Scheme.{hasAlpha}
 use Rattle.session_state.specs.declared.Verdict.{Verdict}
 use Rattle.session_state.specs.declared.Verdict.the-variants.{Accepted, Rejected}
 use Rattle.session_state.specs.State.{nextCount}
 use Rattle.carrier_state.specs.declared.session.CarrierPhase.the-variants.{SetAlpha, SetChallenge, Closed}
 use Rattle.carrier_state.specs.declared.session.Carrier.{Carrier}
-use Rattle.carrier_state.specs.Carrier.{phaseNumber, closedCarrier, carrierWith, openedCarrier, withCommitments, withAlpha, withMiddle, withChallenge, judgedCarrier}
+use Rattle.carrier_state.specs.Carrier.{phaseNumber, heldCommitments, closedCarrier, carrierWith, openedCarrier, behindCommitments, withCommitments, withAlpha, withMiddle, withChallenge, judgedCarrier}
 
 -- ---- only a closing or a refused opening closes a session
 
@@ -25,10 +27,10 @@ unfolding phaseNumber openedCarrier
 opened-open b scheme rounds v closed = omega arith
 
 pub commitments-open : (c : Carrier) (commitments : List ℕ) → Open (withCommitments c commitments)
-unfolding phaseNumber withCommitments carrierWith
-commitments-open c commitments = go (eqb (c .scheme) 3)
+unfolding phaseNumber withCommitments behindCommitments carrierWith
+commitments-open c commitments = go (hasAlpha (c .scheme))
   where
-    go : (three : Bool) → phaseNumber (cond three SetChallenge SetAlpha) ≡ 0 → ⊥
+    go : (t : Bool) → phaseNumber (cond t SetAlpha SetChallenge) ≡ 0 → ⊥
     go true closed = omega arith
     go false closed = omega arith
 
@@ -93,8 +95,9 @@ closed-keeps verdict count = (refl, refl)
 
 -- all numbers of a session but the count
 abbrev pub otherNumbers : Carrier → List ℕ
-otherNumbers c = c .scheme ∷ c .q ∷ c .n ∷ c .m ∷ c .rounds ∷ c .challenge ∷ (c .v ++ c .commitments ++ c .middle)
+otherNumbers c = c .q ∷ c .n ∷ c .m ∷ c .rounds ∷ c .challenge ∷ (c .v ++ c .commitments ++ c .turn)
 
-pub closed-zero : (verdict : Verdict) (count : ℕ) → otherNumbers (closedCarrier verdict count) ≡ zeros 391
-unfolding closedCarrier zeros
-closed-zero verdict count = refl
+-- the scheme, which is no number, is the first
+pub closed-zero : (verdict : Verdict) (count : ℕ) → (otherNumbers (closedCarrier verdict count) ≡ zeros 390) × (closedCarrier verdict count .scheme ≡ ThreePass)
+unfolding closedCarrier heldCommitments tabulate zeros
+closed-zero verdict count = (refl, refl)

@@ -497,14 +497,14 @@ module _ (o : Terms) where
       [],
       subst (λ (s : Scheme). Turn s (a .alphas) (t .middles) r []) (sym three) (no-turn (a .alphas) (t .middles) r),
       same-verdict b (domainOf o) (asVector (o .key)) (heldCommitments c) c m m challenge reply (commitments-read c long) (λ i. refl) ∙
-      no-turn-read b (domainOf o) (asVector (o .key)) c m [] challenge reply three,
+          no-turn-read b (domainOf o) (asVector (o .key)) c m [] challenge reply three,
     )
     turn-read a t r c m challenge b reply long (turn-held five α l set taken size e) = (
       α ∷ l,
       subst (λ (s : Scheme). Turn s (a .alphas) (t .middles) r (α ∷ l)) (sym five) (full-turn (a .alphas) (t .middles) r α l set taken),
       rw e
-      (same-verdict b (domainOf o) (asVector (o .key)) (heldCommitments c) c (heldTurn α l) (α ∷ l) challenge reply (commitments-read c long)
-      (held-reads α l (omega (arith, k .small)))),
+          (same-verdict b (domainOf o) (asVector (o .key)) (heldCommitments c) c (heldTurn α l) (α ∷ l) challenge reply (commitments-read c long)
+          (held-reads α l (omega (arith, k .small)))),
     )
 
     checks : (a : Asked) (t : Taken) (carrier : Carrier) (r : ℕ) (b reply : List ℕ) → Progress a t carrier r TakeReply → Checked a t carrier r b reply

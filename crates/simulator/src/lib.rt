@@ -55,7 +55,10 @@ fn simulate_refusal<'a>(
     );
     let challenges = first(
         unless(unanswered <= 2, 4),
-        first(unless(challenge <= 2, 4), unless(unanswered != challenge, 4)),
+        first(
+            unless(challenge <= 2, 4),
+            unless(unanswered != challenge, 4),
+        ),
     );
     first(
         check(system),
@@ -71,7 +74,13 @@ fn lent_behind(lent: &[u8], n: u8, m: u8) -> Lent
 }
 
 // The simulator's vectors, from s' and what is lent behind it.
-fn lent_vectors<'a>(system: &'a [u8], unanswered: u8, v: &'a [u8], lent: &'a [u8], l: Lent) -> Vectors
+fn lent_vectors<'a>(
+    system: &'a [u8],
+    unanswered: u8,
+    v: &'a [u8],
+    lent: &'a [u8],
+    l: Lent,
+) -> Vectors
     requires { ⌜ systemRefusal (now system) ≡ 0 ⌝ }
     ensures { λ r. ⌜ vectorsOf r ≡ vectorsFrom (now (system .entry)) unanswered (now (v .entry)) (now (lent .entry)) l ⌝ }
 {

@@ -1,9 +1,20 @@
--- The callees' answers, put together. Assumes nothing.
+-- The chain ends at the system, and at the form of scheme, N and lengths. Assumes nothing.
+use Prim.Native.Nat.{ℕ}
+use mathlib.Core.Path.{_≡_, _∙_}
+use Rattle.refusal.specs.Refusal.{_orElse_}
 use Rattle.refusal.proofs.Refusals.{orElse-assoc}
+use Rattle.session_state.proofs.States.{ends-here, goes-on}
 use Rattle.card_state.specs.Card.{openForm}
 use borrow.Author.Needs.{needs}
 use Rattle.card_state.proofs.refusals.open_form.Statement.{statement}
 use Rattle.card_state.proofs.refusals.open_form.Tie as tie
+
+-- what is asked of scheme, N and lengths comes before the elements
+form-ends : (a b c d rest r : ℕ) → r ≡ ((a orElse b) orElse (c orElse d)) → (r ≡ 0 → ⊥) → r ≡ (a orElse b orElse c orElse d orElse rest)
+form-ends a b c d rest r e some = ends-here r _ rest e some ∙ simp orElse-assoc
+
+form-goes-on : (a b c d rest r x : ℕ) → r ≡ ((a orElse b) orElse (c orElse d)) → r ≡ 0 → x ≡ rest → x ≡ (a orElse b orElse c orElse d orElse rest)
+form-goes-on a b c d rest r x e none ex = goes-on r _ rest x e none ex ∙ simp orElse-assoc
 
 pub open-form-spec : {M : Type 1} → statement M
 unfolding openForm
@@ -11,6 +22,8 @@ open-form-spec =
     tie.close
     (tie.spec
     (λ c κs. search needs)
+    (λ c. ends-here _ _ _ (c .before .check .ensures) (c .if1 .taken))
+    (λ c κs. search needs)
     (λ c κs. search needs)
     (λ c. search needs)
     (λ c κs. search needs)
@@ -24,12 +37,12 @@ open-form-spec =
     (λ c κs. search needs)
     (λ c κs. search needs)
     (λ c κs. search needs)
+    (λ c. goes-on _ _ _ _ (c .before .before .before .before .before .before .before .before .before .before .before .before .before .before .check .ensures) (c .before .before .before .before .before .before .before .before .before .before .before .before .before .if1 .left) (form-ends _ _ _ _ _ _ (simp (c .before .first3 .ensures, c .before .before .first2 .ensures, c .before .before .before .unless4 .ensures, c .before .before .before .before .unless3 .ensures, c .before .before .before .before .before .first .ensures, c .before .before .before .before .before .before .unless2 .ensures, c .before .before .before .before .before .before .before .is-rounds .ensures, c .before .before .before .before .before .before .before .before .unless .ensures, c .before .before .before .before .before .before .before .before .before .is-scheme .ensures, c .before .before .before .before .before .before .before .before .before .before .byte-at3 .ensures, c .before .before .before .before .before .before .before .before .before .before .before .byte-at2 .ensures)) (c .if2 .taken)))
     (λ c κs. search needs)
     (λ c κs. search needs)
     (λ c κs. search needs)
     (λ c κs. search needs)
     (λ c κs. search needs)
-    (λ c κs. search needs)
-    (λ c κs. search needs)
-    (λ c κs. search needs)
-    (λ c. simp (orElse-assoc, c .first6 .ensures, c .before .first5 .ensures, c .before .before .first4 .ensures, c .before .before .before .check .ensures, c .before .before .before .before .first3 .ensures, c .before .before .before .before .before .unless6 .ensures, c .before .before .before .before .before .before .all-below2 .ensures, c .before .before .before .before .before .before .before .unless5 .ensures, c .before .before .before .before .before .before .before .before .all-below .ensures, c .before .before .before .before .before .before .before .before .before .first2 .ensures, c .before .before .before .before .before .before .before .before .before .before .unless4 .ensures, c .before .before .before .before .before .before .before .before .before .before .before .unless3 .ensures, c .before .before .before .before .before .before .before .before .before .before .before .before .first .ensures, c .before .before .before .before .before .before .before .before .before .before .before .before .before .unless2 .ensures, c .before .before .before .before .before .before .before .before .before .before .before .before .before .before .is-rounds .ensures, c .before .before .before .before .before .before .before .before .before .before .before .before .before .before .before .unless .ensures, c .before .before .before .before .before .before .before .before .before .before .before .before .before .before .before .before .is-scheme .ensures, c .before .before .before .before .before .before .before .before .before .before .before .before .before .before .before .before .before .byte-at3 .ensures, c .before .before .before .before .before .before .before .before .before .before .before .before .before .before .before .before .before .before .byte-at2 .ensures, c .before .before .before .before .before .before .before .before .before .before .before .before .before .before .before .before .before .before .before .byte-at .ensures)))
+    (λ c. goes-on _ _ _ _ (c .before .before .before .before .before .before .before .before .before .before .before .before .before .before .before .before .before .before .before .check .ensures) (c .before .before .before .before .before .before .before .before .before .before .before .before .before .before .before .before .before .before .if1 .left)
+    (form-goes-on _ _ _ _ _ _ _ (simp (c .before .before .before .before .before .before .first3 .ensures, c .before .before .before .before .before .before .before .first2 .ensures, c .before .before .before .before .before .before .before .before .unless4 .ensures, c .before .before .before .before .before .before .before .before .before .unless3 .ensures, c .before .before .before .before .before .before .before .before .before .before .first .ensures, c .before .before .before .before .before .before .before .before .before .before .before .unless2 .ensures, c .before .before .before .before .before .before .before .before .before .before .before .before .is-rounds .ensures, c .before .before .before .before .before .before .before .before .before .before .before .before .before .unless .ensures, c .before .before .before .before .before .before .before .before .before .before .before .before .before .before .is-scheme .ensures, c .before .before .before .before .before .before .before .before .before .before .before .before .before .before .before .byte-at3 .ensures, c .before .before .before .before .before .before .before .before .before .before .before .before .before .before .before .before .byte-at2 .ensures)) (c .before .before .before .before .before .if2 .left)
+    (simp (c .first4 .ensures, c .before .unless6 .ensures, c .before .before .all-below2 .ensures, c .before .before .before .unless5 .ensures, c .before .before .before .before .all-below .ensures, c .before .before .before .before .before .before .before .before .before .before .before .before .before .before .before .before .before .byte-at .ensures)))))

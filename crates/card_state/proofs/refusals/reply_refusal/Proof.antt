@@ -20,4 +20,4 @@ reply-refusal-spec =
     (λ c κs. search needs)
     (λ c κs. search needs)
     (λ c κs. search needs)
-    (λ c. simp (c .first3 .ensures, c .before .first2 .ensures, c .before .before .first .ensures, c .before .before .before .unless3 .ensures, c .before .before .before .before .challenges .ensures, c .before .before .before .before .before .unless2 .ensures, c .before .before .before .before .before .before .unless .ensures, c .before .before .before .before .before .before .before .are-sizes .ensures, c .before .before .before .before .before .before .before .before .state-refusal .ensures, c .before .before .before .before .before .before .before .before .before .phase-number .ensures, c .before .before .before .before .before .before .before .before .before .before .reply-length .ensures .0)))
+    (λ c. simp (c .first3 .ensures, c .before .first2 .ensures, c .before .before .first .ensures, c .before .before .before .unless3 .ensures, c .before .before .before .before .challenges .ensures, c .before .before .before .before .before .unless2 .ensures, c .before .before .before .before .before .before .reply-length .ensures .0, c .before .before .before .before .before .before .before .unless .ensures, c .before .before .before .before .before .before .before .before .are-sizes .ensures, c .before .before .before .before .before .before .before .before .before .state-refusal .ensures, c .before .before .before .before .before .before .before .before .before .before .phase-number .ensures)))

@@ -1,7 +1,7 @@
 -- The record of what was given. Assumes nothing.
-use mathlib.Core.Path.{refl}
 use Rattle.slices.specs.Slices.{zeros}
 use Rattle.carrier_state.specs.Carrier.{closedCarrier}
+use borrow.Author.Needs.{needs}
 use Rattle.carrier_state.proofs.session.closed_carrier.Statement.{statement}
 use Rattle.carrier_state.proofs.session.closed_carrier.Tie as tie
 
@@ -10,4 +10,6 @@ unfolding closedCarrier zeros
 closed-carrier-spec =
     tie.close
     (tie.spec
-    (λ c. refl))
+    (λ c. search needs)
+    (λ c κs. search needs)
+    (λ c. simp (c .held-commitments .ensures)))
