@@ -14,9 +14,9 @@ use refusal::first;
 use refusal::unless;
 use scheme::commitments_length;
 use scheme::exchange_length;
+use scheme::turn_length;
 use scheme::of_rounds;
 use scheme::reply_length;
-use scheme::turn_length;
 use slices::byte_at;
 use slices::part;
 use system::check;
@@ -81,7 +81,11 @@ pub fn round_turn(bytes: &[u8], r: u8) -> &[u8]
     ensures { λ s. ⌜ now s ≡ roundTurn (now (bytes .entry)) r ⌝ }
 {
     let h = header_of(bytes);
-    part(round_exchange(bytes, r), 0, turn_length(h.scheme, h.n, h.m))
+    part(
+        round_exchange(bytes, r),
+        0,
+        turn_length(h.scheme, h.n, h.m),
+    )
 }
 
 // The challenge of a round.

@@ -1,20 +1,17 @@
--- Each vector behind the last. Assumes nothing.
-use mathlib.Core.Path.{_∙_}
+-- One vector more. Assumes nothing.
 use mathlib.Core.List.{append-assoc}
 use native.Mathlib.Omega.{arith}
 use Rattle.commitment.specs.Commitment.{hashedString}
+use Rattle.commitment.proofs.Texts.{text-as}
 use borrow.Author.Needs.{needs}
-use Rattle.commitment.proofs.string.Statement.{statement}
-use Rattle.commitment.proofs.string.Tie as tie
+use Rattle.commitment.proofs.string_three.Statement.{statement}
+use Rattle.commitment.proofs.string_three.Tie as tie
 
-pub string-spec : {M : Type 1} → statement M
+pub string-three-spec : {M : Type 1} → statement M
 unfolding hashedString
-string-spec =
+string-three-spec =
     tie.close
     (tie.spec
     (λ c κs. search needs)
-    (λ c κs. search needs)
-    (λ c κs. search needs)
-    (λ c κs. search needs)
-    (λ c.
-    (c .append3 .ensures .holds _ (c .before .append2 .ensures .holds _ (c .before .before .append .ensures .holds _ (c .before .before .before .start .ensures .0))) ∙ simp append-assoc, omega arith)))
+    (λ c κs. omega (arith, c .string-two .ensures .fits))
+    (λ c. text-as _ _ 0 _ (c .append .ensures .holds _ 0 (c .before .string-two .ensures)) (simp append-assoc)))
