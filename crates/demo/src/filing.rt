@@ -4,7 +4,7 @@ use crate::say::say;
 use crate::say::say_number;
 use crate::say::say_refused;
 use hex::append_hex;
-use record_form::Header;
+use record_form::header_from;
 use record_form::laid_out;
 use record_form::record_length;
 use record_writer::write;
@@ -58,19 +58,17 @@ fn written<'a>(
 ) -> usize
     requires { ⌜ (length (now system) ≤ 65536) × (length (now out) ≡ 1065536) ⌝ }
 {
-    let h = Header {
-        scheme: t.scheme,
-        q: t.q,
-        n: t.n,
-        m: t.m,
-        rounds: t.rounds,
-    };
+    let h = header_from(t.scheme, t.q, t.n, t.m, t.rounds);
     let l = laid_out(h);
     let start = system.len();
     let end = start + record_length(h);
     put(out, 0, system);
     let refused = write(
-        h,
+        t.scheme,
+        t.q,
+        t.n,
+        t.m,
+        t.rounds,
         v,
         part(commitments, 0, l.commitments.length),
         part(exchanges, 0, l.exchanges.length),

@@ -3,10 +3,14 @@ use crate::say::say_refused;
 use crate::say::say_refused_in;
 use card_state::Card;
 use carrier_state::Carrier;
+use scheme::Scheme;
 use scheme::commitments_length;
 use scheme::exchange_length;
+use scheme::has_alpha;
+use scheme::lent_length;
 use scheme::of_rounds;
 use scheme::reply_length;
+use scheme::scheme_of;
 use scheme::turn_length;
 use slices::byte_at;
 use slices::part;
@@ -31,23 +35,20 @@ pub struct Ends {
     pub refused: bool,
 }
 
-// The bytes of what is lent for a round.
-fn lent_length(t: Terms) -> usize
-    ensures { λ r. ⌜ r ≤ 861 ⌝ }
-{
-    let n = t.n as usize;
-    let m = t.m as usize;
-    n + n + m + commitments_length(t.scheme)
+// The scheme of the terms' byte; both openings refuse a byte that is none's.
+pub fn passes(t: Terms) -> Scheme {
+    scheme_of(t.scheme)
 }
 
 // The bytes of a round in the input: what is lent, α in scheme 5, the challenge.
 pub fn round_length(t: Terms) -> usize
     ensures { λ r. ⌜ r ≤ 863 ⌝ }
 {
-    if t.scheme == 3 {
-        lent_length(t) + 1
+    let lent = lent_length(passes(t), t.n, t.m);
+    if has_alpha(passes(t)) {
+        lent + 2
     } else {
-        lent_length(t) + 2
+        lent + 1
     }
 }
 
@@ -103,9 +104,9 @@ fn played_round<'a>(
 ) -> Ends
     requires { ⌜ (length (now commitments) ≡ 343296) × (length (now exchanges) ≡ 343296) ⌝ }
 {
-    let asked = part(round, lent_length(t), 2);
+    let asked = part(round, lent_length(passes(t), t.n, t.m), 2);
     let committed = committed(t, r, ends, system, round, commitments);
-    let start = of_rounds(r, exchange_length(t.scheme, t.n, t.m));
+    let start = of_rounds(r, exchange_length(passes(t), t.n, t.m));
     exchanged(t, committed, system, asked, &mut exchanges[start..])
 }
 
@@ -120,8 +121,8 @@ fn committed<'a>(
 ) -> Ends
     requires { ⌜ length (now commitments) ≡ 343296 ⌝ }
 {
-    let lent = part(round, 0, lent_length(t));
-    let length = commitments_length(t.scheme);
+    let lent = part(round, 0, lent_length(passes(t), t.n, t.m));
+    let length = commitments_length(passes(t));
     let start = of_rounds(r, length);
     let end = start + length;
     commit(ends, system, lent, &mut commitments[start..end])
@@ -137,11 +138,11 @@ fn exchanged<'a>(
 ) -> Ends
     requires { ⌜ 1341 ≤ length (now exchange) ⌝ }
 {
-    if t.scheme == 3 {
-        return with_reply(t, ends, system, byte_at(asked, 0), exchange);
+    if has_alpha(passes(t)) {
+        let answered = with_answer(t, ends, system, byte_at(asked, 0), exchange);
+        return with_reply(t, answered, system, byte_at(asked, 1), exchange);
     }
-    let answered = with_answer(t, ends, system, byte_at(asked, 0), exchange);
-    with_reply(t, answered, system, byte_at(asked, 1), exchange)
+    with_reply(t, ends, system, byte_at(asked, 0), exchange)
 }
 
 // Puts α, t1 and e1 at the front of an exchange.
@@ -157,9 +158,9 @@ fn with_answer(t: Terms, ends: Ends, system: &[u8], alpha: u8, exchange: &mut [u
 fn with_reply(t: Terms, ends: Ends, system: &[u8], challenge: u8, exchange: &mut [u8]) -> Ends
     requires { ⌜ 1341 ≤ length (now exchange) ⌝ }
 {
-    let at = turn_length(t.scheme, t.n, t.m);
+    let at = turn_length(passes(t), t.n, t.m);
     let start = at + 1;
-    let end = start + reply_length(t.scheme, t.n, t.m);
+    let end = start + reply_length(passes(t), t.n, t.m);
     put(exchange, at, &[challenge]);
     reply(ends, system, challenge, &mut exchange[start..end])
 }

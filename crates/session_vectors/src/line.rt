@@ -5,6 +5,7 @@ use carrier_state::Carrier;
 use carrier_state::CarrierPhase;
 use hex::append_hex;
 use libc::STDOUT_FILENO;
+use scheme::Scheme;
 use session_state::Verdict;
 use slices::part;
 
@@ -39,9 +40,17 @@ fn say_start(digest: &[u8; 32]) {
 pub fn end_line(card: Card, carrier: Carrier) {
     let card_phase = card.phase;
     let carrier_phase = carrier.phase;
-    let of_card = [card.scheme, card.q, card.n, card.m, card.rounds];
+    let card_scheme = card.scheme;
+    let carrier_scheme = carrier.scheme;
+    let of_card = [
+        scheme_number(card_scheme),
+        card.q,
+        card.n,
+        card.m,
+        card.rounds,
+    ];
     let of_carrier = [
-        carrier.scheme,
+        scheme_number(carrier_scheme),
         carrier.q,
         carrier.n,
         carrier.m,
@@ -58,6 +67,14 @@ pub fn end_line(card: Card, carrier: Carrier) {
     say_if(carrier_closed && any(&of_carrier), b"n");
     say_messages(carrier);
     say(b"\n");
+}
+
+// 0 for the first scheme, which a closed session has.
+fn scheme_number(scheme: Scheme) -> u8 {
+    match scheme {
+        Scheme::ThreePass => 0,
+        Scheme::FivePass => 1,
+    }
 }
 
 // Answers whether the session is closed.
@@ -103,9 +120,10 @@ fn say_secret(card: Card) {
     let t0 = card.t0;
     let e0 = card.e0;
     let e1 = card.e1;
-    let rho0 = card.rho0;
-    let rho1 = card.rho1;
-    let rho2 = card.rho2;
+    let held = card.rhos;
+    let rho0 = held.rho0;
+    let rho1 = held.rho1;
+    let rho2 = held.rho2;
     let vectors = any(&r0) || any(&t0) || any(&e0) || any(&e1);
     let rhos = any(&rho0) || any(&rho1) || any(&rho2);
     say_if(any(&s), b"s");
@@ -116,8 +134,8 @@ fn say_secret(card: Card) {
 fn say_messages(carrier: Carrier) {
     let v = carrier.v;
     let commitments = carrier.commitments;
-    let middle = carrier.middle;
-    let messages = any(&commitments) || any(&middle) || carrier.challenge != 0;
+    let turn = carrier.turn;
+    let messages = any(&commitments) || any(&turn) || carrier.challenge != 0;
     say_if(any(&v), b"v");
     say_if(messages, b"m");
 }
