@@ -1,12 +1,11 @@
 -- What a call makes of the session and sends, by the scheme. Assumes nothing.
-use Prim.Native.Nat.{ℕ, _+_}
+use Prim.Native.Nat.{ℕ}
 use mathlib.Core.Path.{_≡_}
 use mathlib.Core.List.{List}
 use Rattle.slices.specs.Slices.{zeros}
 use Rattle.system.specs.System.{nOf, mOf}
-use Rattle.scheme.specs.declared.Scheme.{Scheme}
 use Rattle.scheme.specs.declared.Scheme.the-variants.{ThreePass, FivePass}
-use Rattle.scheme.specs.Scheme.{commitmentCount, openedCount, hasAlpha, commitmentsLength, vectorsLength, rhosLength, replyLength}
+use Rattle.scheme.specs.Scheme.{hasAlpha}
 use Rattle.exchange.specs.Messages.{lentIn, threeCommitments, fiveCommitments}
 use Rattle.exchange.specs.Card.{threeVectors, threeCommitted, fiveCommitted}
 use Rattle.card_state.specs.declared.session.CardPhase.the-variants.{AnswerAlpha, Reply}
@@ -32,21 +31,3 @@ pub sent-five : (card : Card) (b lent : List ℕ) → card .scheme ≡ FivePass 
     sentCommitments card b lent ≡ fiveCommitments (fiveCommitted (cardDomain card) b (card .s) lent)
 unfolding sentCommitments commitmentsOf
 sent-five card b lent five = simp five
-
--- ---- lengths by the scheme
-
-pub three-commitments : (scheme : Scheme) → scheme ≡ ThreePass → commitmentsLength scheme ≡ 96
-unfolding commitmentsLength commitmentCount
-three-commitments scheme three = rw three
-
-pub five-commitments : (scheme : Scheme) → scheme ≡ FivePass → commitmentsLength scheme ≡ 64
-unfolding commitmentsLength commitmentCount
-five-commitments scheme five = rw five
-
-pub three-reply : (scheme : Scheme) (n m : ℕ) → scheme ≡ ThreePass → replyLength scheme n m ≡ n + n + m + 64
-unfolding replyLength vectorsLength rhosLength openedCount
-three-reply scheme n m three = rw three
-
-pub five-reply : (scheme : Scheme) (n m : ℕ) → scheme ≡ FivePass → replyLength scheme n m ≡ n + 32
-unfolding replyLength vectorsLength rhosLength openedCount
-five-reply scheme n m five = rw five

@@ -36,5 +36,5 @@ answer-alpha-spec =
     let sent = c .before .before .before .before .before .before .before .before .middle .ensures in (
       sym (c .before .before .before .before .before .before .before .before .before .before .before .before .before .if1 .left) ∙ c .before .before .before .before .before .before .before .before .before .before .before .before .before .before .alpha-refusal .ensures,
       simp (c .card-with .ensures, c .before .held-lent .ensures),
-      simp (c .before .before .before .before .write-middle .ensures, sent .0, sent .1, n, m),
+      simp (c .before .before .before .before .write-middle .ensures, sent, n, m),
     )))

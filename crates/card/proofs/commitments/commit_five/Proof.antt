@@ -1,6 +1,7 @@
 -- The callees' answers, put together. Assumes nothing.
 use Rattle.slices.specs.Slices.{zeros}
 use Rattle.exchange.specs.Card.{fiveCommitted}
+use Rattle.card_state.proofs.Steps.{committed-five, sent-five}
 use borrow.Author.Needs.{needs}
 use Rattle.card.proofs.commitments.commit_five.Statement.{statement}
 use Rattle.card.proofs.commitments.commit_five.Tie as tie
@@ -14,10 +15,13 @@ commit-five-spec =
     (λ c κs. search needs)
     (λ c κs. search needs)
     (λ c κs. search needs)
-    (λ c κs. c .before .before .before .before .before .before .before .before .before .before .before .before .before .pre .1)
+    (λ c κs. search needs)
+    (λ c κs. search needs)
     (λ c κs. search needs)
     (λ c. search needs)
-    (λ c. (
-      simp (c .card-with .ensures, c .before .before .before .before .before .before .before .before .before .before .before .read-lent .ensures, c .before .before .before .before .before .before .before .before .before .before .before .before .byte-at2 .ensures, c .before .before .before .before .before .before .before .before .before .before .before .before .before .byte-at .ensures),
-      simp (c .before .before .before .write-two-commitments .ensures, c .before .before .before .before .before .commitments-five .ensures, c .before .before .before .before .before .before .before .before .before .before .before .read-lent .ensures, c .before .before .before .before .before .before .before .before .before .before .before .before .byte-at2 .ensures, c .before .before .before .before .before .before .before .before .before .before .before .before .before .byte-at .ensures),
+    (λ c. 
+    let a = c .before .before .before .before .before .before .before .before .before .before .before .before .before .before .before .before .before .before .args in
+    let five = c .before .before .before .before .before .before .before .before .before .before .before .before .before .before .before .before .before .before .pre .0 in (
+      simp (committed-five (a .card) (a .system .now) (a .lent .now) five, c .card-with .ensures, c .before .before .before .before .before .before .before .before .before .before .before .before .read-lent .ensures, c .before .before .before .before .before .before .before .before .before .before .before .before .before .byte-at2 .ensures, c .before .before .before .before .before .before .before .before .before .before .before .before .before .before .byte-at .ensures),
+      simp (sent-five (a .card) (a .system .now) (a .lent .now) five, c .before .before .before .write-five-commitments .ensures, c .before .before .before .before .before .commitments-five .ensures, c .before .before .before .before .before .before .card-domain .ensures, c .before .before .before .before .before .before .before .before .before .before .before .before .read-lent .ensures, c .before .before .before .before .before .before .before .before .before .before .before .before .before .byte-at2 .ensures, c .before .before .before .before .before .before .before .before .before .before .before .before .before .before .byte-at .ensures),
     )))

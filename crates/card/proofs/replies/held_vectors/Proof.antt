@@ -12,4 +12,4 @@ held-vectors-spec =
     (tie.spec
     (λ c κs. search needs)
     (λ c κs. search needs)
-    (λ c. simp (c .sub-vectors2 .ensures, c .before .sub-vectors .ensures)))
+    (λ c. simp (c .t1-of .ensures, c .before .r1-of .ensures)))
