@@ -83,7 +83,7 @@ module _ (o : Terms) where
         let er = reply-is ∙ three-reply (passes o) (o .system) (St.secretOf o) (p .lent) (p .challenge) three in
         let few = three-challenges (passes o) (p .challenge) three (p .challenge-value) in
         rw (ec, ech, er)
-        (honest-three (o .system) (k .good) (St.secretOf o) (p .lent) (asVector (o .key)) (k .key-is) (k .secret-is) (p .lends) (domainOf o) three turn (p .challenge) few)
+        (honest-three (o .system) (k .good) (St.secretOf o) (p .lent) (domainOf o) (asVector (o .key)) (k .key-is) (k .secret-is) (p .lends) three turn (p .challenge) few)
 
     -- in five passes, with the α that was set and the t1 and e1 that were given
     five-accepted : passes o ≡ FivePass → (c : List ℕ) (α : ℕ) (l : List ℕ) (challenge : ℕ) → g .commitments r ≡ some c → a .alphas r ≡ some α →
@@ -99,7 +99,7 @@ module _ (o : Terms) where
         let er = reply-is ∙ five-reply (passes o) (o .system) (St.secretOf o) (p .lent) (p .challenge) five in
         let few = five-challenges (passes o) (p .challenge) five (p .challenge-value) in
         rw (ec, eα, el, ech, er)
-        (honest-five (o .system) (k .good) (St.secretOf o) (p .lent) (asVector (o .key)) (k .key-is) (k .secret-is) (p .lends) (domainOf o) five β (p .challenge) few)
+        (honest-five (o .system) (k .good) (St.secretOf o) (p .lent) (domainOf o) (asVector (o .key)) (k .key-is) (k .secret-is) (p .lends) five β (p .challenge) few)
 
     -- by the scheme's check of the messages as they were given
     given-accepted : (c turn : List ℕ) (challenge : ℕ) → g .commitments r ≡ some c → Turn (passes o) (a .alphas) (g .middles) r turn →

@@ -13,9 +13,11 @@ judged-carrier-spec =
     tie.close
     (tie.spec
     (λ c κs. search needs)
+    (λ c. search needs)
     (λ c κs. search needs)
     (λ c κs. search needs)
     (λ c κs. search needs)
-    (λ c. simp (c .before .before .before .if1 .taken, sym (c .before .before .before .before .next-count .ensures), lt-ltb _ _ (c .before .if2 .taken), c .carrier-with .ensures))
+    (λ c κs. search needs)
+    (λ c. simp (c .before .before .before .before .before .if1 .taken, sym (c .before .before .before .before .before .before .next-count .ensures), lt-ltb _ _ (c .before .before .before .if2 .taken), c .carrier-with .ensures, c .before .held-commitments .ensures))
     (λ c. simp (c .before .before .before .if1 .taken, sym (c .before .before .before .before .next-count .ensures), le-ltb _ _ (c .before .if2 .left), c .closed-carrier .ensures))
     (λ c. simp (c .before .if1 .left, c .closed-carrier2 .ensures)))

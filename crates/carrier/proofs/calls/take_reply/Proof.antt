@@ -23,8 +23,12 @@ take-reply-spec =
     (tie.spec
     (λ c κs. search needs)
     (λ c. (c .before .reply-refusal .ensures, sym (kept-refused _ _ _ (c .if1 .taken)), sym (kept-refused _ _ _ (c .if1 .taken))))
-    (λ c. search needs)
-    (λ c. search needs)
-    (λ c κs. good _ _ _ (sym (c .before .before .before .before .before .before .reply-refusal .ensures) ∙ c .before .before .before .before .before .if1 .left))
     (λ c κs. search needs)
-    (λ c. (sym (c .before .before .before .before .before .before .before .if1 .left) ∙ c .before .before .before .before .before .before .before .before .reply-refusal .ensures, c .before .judge .ensures, c .judged-carrier .ensures ∙ ap (judgedCarrier _) (c .before .judge .ensures))))
+    (λ c. search needs)
+    (λ c. search needs)
+    (λ c κs. good _ _ _ (sym (c .before .before .before .before .before .before .before .reply-refusal .ensures) ∙ c .before .before .before .before .before .before .if1 .left))
+    (λ c κs. search needs)
+    (λ c. 
+    let a = c .before .before .before .before .before .before .before .before .before .before .before .before .args in
+    let verdict : c .before .judge .result ≡ acceptsReply (a .c) (a .system .now) (a .reply .now) = simp (c .before .judge .ensures, c .before .before .before .before .carrier-domain .ensures) in
+    (sym (c .before .before .before .before .before .before .before .before .if1 .left) ∙ c .before .before .before .before .before .before .before .before .before .reply-refusal .ensures, verdict, c .judged-carrier .ensures ∙ ap (judgedCarrier _) verdict)))

@@ -14,4 +14,7 @@ opened-carrier-spec =
     (λ c κs. search needs)
     (λ c κs. search needs)
     (λ c κs. search needs)
-    (λ c. simp (c .from-slice .ensures, c .before .byte-at3 .ensures, c .before .before .byte-at2 .ensures, c .before .before .before .byte-at .ensures)))
+    (λ c κs. search needs)
+    (λ c. search needs)
+    (λ c κs. search needs)
+    (λ c. simp (c .held-commitments .ensures, c .before .before .from-slice .ensures, c .before .before .before .byte-at3 .ensures, c .before .before .before .before .byte-at2 .ensures, c .before .before .before .before .before .byte-at .ensures, c .before .before .before .before .before .before .scheme-of .ensures)))
