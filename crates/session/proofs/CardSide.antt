@@ -12,11 +12,13 @@ use lib.ListN.{length, take}
 use Rattle.field.specs.Vector.{Elements, allBelow}
 use Rattle.system.specs.System.{qOf, nOf, mOf, systemRefusal}
 use Rattle.system.proofs.SystemLayout.{all-below-at, at-all-below, sizes-has, sizes-true, accepted}
-use Rattle.scheme.specs.declared.Scheme.the-variants.{FivePass}
+use Rattle.scheme.specs.declared.Scheme.{Scheme}
+use Rattle.scheme.specs.declared.Scheme.the-variants.{ThreePass, FivePass}
 use Rattle.scheme.specs.Scheme.{challenges, drawnLength, commitmentsLength, lentLength, replyLength}
 use Rattle.protocol.specs.Protocols.{cardThree, r1Of, t1Of}
 use Rattle.protocol.specs.Rounds.{mapOf}
 use Rattle.round.specs.ThreePass.{replyThree}
+use Rattle.exchange.specs.Messages.{lentIn}
 use Rattle.exchange.specs.Card.{threeVectors, threeReplied}
 use Rattle.exchange.proofs.Formed.{Lends}
 use Rattle.card_state.specs.declared.session.CardPhase.{CardPhase}
@@ -32,6 +34,33 @@ use Rattle.session.proofs.CarrierHistory.{card-moved}
 use Rattle.session.proofs.CardHistory.{three-behind, five-behind, freshCard, heldCard, committed-is, answered-is, replied-next, replied-last, withCommitments, withMiddles, withReplies, CardHistory, commit-history, answer-history, reply-history}
 use Rattle.session.proofs.States as St
 use Rattle.session.proofs.States.{GivenStays, Link, CardState, Past, past-stays, asked-same}
+
+-- a card to which this is lent
+abbrev lendingCard : Scheme → CardPhase → ℕ → ℕ → List ℕ → List ℕ → List ℕ → Card
+lendingCard scheme phase rounds round b s lent =
+    let l = lentIn (nOf b) (mOf b) lent in
+    record {
+      phase = phase;
+      scheme = scheme;
+      q = qOf b;
+      n = nOf b;
+      m = mOf b;
+      rounds = rounds;
+      round = round;
+      s = s;
+      r0 = l .r0;
+      t0 = l .t0;
+      e0 = l .e0;
+      e1 = keptE1 scheme b s lent;
+      rhos = l .rhos;
+    }
+
+-- what it replies
+reply-of : (scheme : Scheme) (phase : CardPhase) (rounds round : ℕ) (b s lent : List ℕ) (challenge : ℕ) →
+    replyOf scheme (lendingCard scheme phase rounds round b s lent) challenge ≡ St.replyBytes scheme b s lent challenge
+unfolding replyOf keptE1 St.replyBytes heldVectors threeReplied threeVectors replyThree cardThree r1Of t1Of mapOf
+reply-of ThreePass phase rounds round b s lent challenge = refl
+reply-of FivePass phase rounds round b s lent challenge = refl
 
 -- what is lent has elements, as many as the scheme draws
 pub drawn-lends : (o : Terms) (lent : List ℕ) → allBelow (qOf (o .system)) (take (drawnLength (passes o) (nOf (o .system)) (mOf (o .system))) lent) ≡ true →
@@ -50,8 +79,8 @@ module _ (o : Terms) where
   sent-middle-is phase r lent α = refl
 
   pub sent-reply-is : (phase : CardPhase) (r : ℕ) (lent : List ℕ) (challenge : ℕ) → sentReply (heldCard o (o .system) phase r lent) challenge ≡ St.givenReply o lent challenge
-  unfolding sentReply replyOf keptE1 St.replyBytes heldVectors heldCard cardWith openedCard threeReplied threeVectors replyThree cardThree r1Of t1Of mapOf
-  sent-reply-is phase r lent challenge = by-scheme (passes o) (λ three. simp three) (λ five. simp five)
+  unfolding sentReply heldCard cardWith openedCard
+  sent-reply-is phase r lent challenge = reply-of (passes o) phase (o .rounds) r (o .system) (St.secretOf o) lent challenge
 
   -- ---- the call that is due, by the state
 

@@ -1,16 +1,15 @@
 -- The carrier's session along every list of calls, honest or not: what it is, by the call that is due, and what was taken and set. Assumes nothing.
 use Prim.Native.Nat.{ℕ, _+_, _≤_, _<_}
 use mathlib.Core.Path.{_≡_, refl, sym, ap, subst, _∙_}
-use mathlib.Core.Bool.{Bool, true, false, cond, false≢true}
+use mathlib.Core.Bool.{Bool, true, false, false≢true}
 use mathlib.Core.List.{List, [], _∷_}
 use mathlib.Core.Logic.{⊎-elim}
 use mathlib.Core.Option.{some}
 use native.Mathlib.Nat.{lt-of-not-le, eq-or-lt-of-le}
 use native.Mathlib.Decide.{decLe}
 use native.Mathlib.Omega.{arith}
-use lib.Dec.{eqb}
 use lib.ListN.{length}
-use borrow.Author.Tests.{eqb-true, eqb-false, ne-eqb, lt-ltb, le-ltb}
+use borrow.Author.Tests.{lt-ltb, le-ltb}
 use Rattle.slices.specs.Slices.{_!_, zeros}
 use Rattle.slices.proofs.Tabulate.{tabulate-at}
 use Rattle.refusal.proofs.Refusals.{first-zero, later-zero, equal-holds}

@@ -16,7 +16,7 @@ use Rattle.field.proofs.Fields.{ring}
 use Rattle.field.proofs.Modulus.{size-of}
 use Rattle.system.specs.System.{qOf, nOf, mOf}
 use Rattle.system.proofs.SystemLayout.{accepted, well-formed, not-refused, at-all-below, all-below-at}
-use Rattle.scheme.specs.Scheme.{byteOf, schemeOf, isScheme, isRounds, lentLength}
+use Rattle.scheme.specs.Scheme.{byteOf, schemeOf, isScheme, isRounds, drawnLength, lentLength}
 use Rattle.card_state.specs.Card as CardCalls
 use Rattle.card_state.proofs.Taken.{open-taken, open-due}
 use Rattle.carrier_state.specs.Carrier as CarrierCalls
@@ -131,9 +131,11 @@ unfolding zeroDraw zeros
 zeros-fit o k =
     let a = accepted (o .system) (not-refused (o .system) (k .for-carrier .system-well-formed)) in
     let positive : 0 < qOf (o .system) = rw (sym (size-of (qOf (o .system)) (a .is-field))) (ring (qOf (o .system)) .zero-below) in
+    let n = nOf (o .system) in
+    let m = mOf (o .system) in
     record {
       lent-length = length-replicate {A = ℕ} _ 0;
-      lent-elements = zero-elements (qOf (o .system)) (lentLength (passes o) (nOf (o .system)) (mOf (o .system))) _ positive;
+      lent-elements = zero-elements (qOf (o .system)) (lentLength (passes o) n m) (drawnLength (passes o) n m) positive;
       alpha-element = λ alpha. positive;
       challenge-value = some-challenge (passes o);
     }
