@@ -87,9 +87,9 @@ pub fn alpha_refusal(card: Card, system: &[u8], alpha: u8, out_len: usize) -> u8
     if state != 0 {
         return state;
     }
-    let against = check_against(system, card.q, card.n, card.m);
-    if against != 0 {
-        return against;
+    let refused = check_against(system, card.q, card.n, card.m);
+    if refused != 0 {
+        return refused;
     }
     first(
         unless(out_len == card.n as usize + card.m as usize, 2),
