@@ -17,7 +17,7 @@ ghost use Prim.Native.Nat.{ℕ};
 ghost use mathlib.Core.Path.{_≡_};
 ghost use mathlib.Core.List.{List};
 ghost use Rattle.system.specs.System.{systemRefusal};
-ghost use Rattle.commitment.specs.Texts.{TextOf};
+ghost use Rattle.commitment.specs.Texts.{Room, TextOf};
 ghost use Rattle.round.specs.declared.pieces.ReplyThree.{ReplyThree as ReplyThree·};
 ghost use Rattle.round.specs.Pieces.{vectorsOf};
 ghost use Rattle.round.specs.Openings.{stringOf, openingAt};
@@ -125,7 +125,7 @@ pub fn first_opening(
 
 // The string of the second opening, whatever v: of c1 for challenge 2, else of c2.
 pub fn second_opening(system: &[u8], d: Domain, challenge: u8, reply: ReplyThree) -> Text
-    ensures { λ t. ⌜ ((v : List ℕ) → TextOf (stringOf d (openingAt (openingsThree (now (system .entry)) v challenge reply) 1)) 1 t) ⌝ }
+    ensures { λ t. ⌜ Room 1 t × ((v : List ℕ) → TextOf (stringOf d (openingAt (openingsThree (now (system .entry)) v challenge reply) 1)) 1 t) ⌝ }
 {
     let n = byte_at(system, 1);
     let m = byte_at(system, 2);
