@@ -6,7 +6,7 @@ use crate::pieces::Rhos;
 use crate::pieces::Vectors;
 use commitment::Domain;
 use commitment::Text;
-use commitment::commit_two;
+use commitment::digest;
 use commitment::string_two;
 use field::add_vectors;
 use field::sub_vectors;
@@ -37,9 +37,9 @@ pub fn commitments_three(d: Domain, n: u8, m: u8, w: Vectors, rhos: Rhos) -> Com
     let rho1 = rhos.rho1;
     let rho2 = rhos.rho2;
     CommitmentsThree {
-        c0: commit_two(d, 0, rho0, r1, n, mask, m),
-        c1: commit_two(d, 1, rho1, t0, n, e0, m),
-        c2: commit_two(d, 2, rho2, t1, n, e1, m),
+        c0: digest(string_two(d, 0, rho0, r1, n, mask, m)),
+        c1: digest(string_two(d, 1, rho1, t0, n, e0, m)),
+        c2: digest(string_two(d, 2, rho2, t1, n, e1, m)),
     }
 }
 
