@@ -1,5 +1,5 @@
--- Document 01, "Simulator": "commitments and reply in one call: from the system, v, challenges Ch* and Ch and lent s', r0, t0, e0, ρ0..ρ2". `unanswered` is Ch*, the
--- challenge that is not answered.
+-- Document 01, "Simulator": "commitments and reply in one call: from the system, v, challenges Ch* and Ch and lent s', r0, t0, e0, ρ0..ρ2". `unanswered` is
+-- Ch*, the challenge that is not answered.
 use Prim.Native.Nat.{ℕ, _+_}
 use mathlib.Core.Bool.{not}
 use mathlib.Core.List.{List}

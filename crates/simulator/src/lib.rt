@@ -62,7 +62,10 @@ fn simulate_refusal<'a>(
     );
     let challenges = first(
         unless(unanswered <= 2, 4),
-        first(unless(challenge <= 2, 4), unless(unanswered != challenge, 4)),
+        first(
+            unless(challenge <= 2, 4),
+            unless(unanswered != challenge, 4),
+        ),
     );
     first(
         check(system),
@@ -87,7 +90,13 @@ fn simulator_domain() -> Domain
 }
 
 // The simulator's vectors, from s' and what is lent behind it.
-fn lent_vectors<'a>(system: &'a [u8], unanswered: u8, v: &'a [u8], lent: &'a [u8], l: Lent) -> Vectors
+fn lent_vectors<'a>(
+    system: &'a [u8],
+    unanswered: u8,
+    v: &'a [u8],
+    lent: &'a [u8],
+    l: Lent,
+) -> Vectors
     requires { ⌜ systemRefusal (now system) ≡ 0 ⌝ }
     ensures { λ r. ⌜ vectorsOf r ≡ vectorsFrom (now (system .entry)) unanswered (now (v .entry)) (now (lent .entry)) l ⌝ }
 {
@@ -109,9 +118,12 @@ pub fn simulate<'a>(
     commitments: &mut [u8],
     reply: &mut [u8],
 ) -> u8
-    ensures { λ r. ⌜ (r ≡ simulateRefusal (now (system .entry)) (now (v .entry)) unanswered challenge (now (lent .entry)) (length (now (commitments .entry))) (length (now (reply .entry))))
-        × (now (commitments .exit) ≡ kept r (now (commitments .entry)) (simulatedCommitments (now (system .entry)) (now (v .entry)) unanswered (now (lent .entry))))
-        × (now (reply .exit) ≡ kept r (now (reply .entry)) (simulatedReply (now (system .entry)) (now (v .entry)) unanswered challenge (now (lent .entry)))) ⌝ }
+    ensures { λ r. ⌜ (r ≡ simulateRefusal (now (system .entry)) (now (v .entry)) unanswered challenge (now (lent .entry))
+        (length (now (commitments .entry))) (length (now (reply .entry))))
+        × (now (commitments .exit) ≡ kept r (now (commitments .entry))
+        (simulatedCommitments (now (system .entry)) (now (v .entry)) unanswered (now (lent .entry))))
+        × (now (reply .exit) ≡ kept r (now (reply .entry))
+        (simulatedReply (now (system .entry)) (now (v .entry)) unanswered challenge (now (lent .entry)))) ⌝ }
 {
     let refused = simulate_refusal(
         system,
