@@ -12,10 +12,10 @@ use Rattle.record_writer.proofs.write.Statement.{statement}
 use Rattle.record_writer.proofs.write.Tie as tie
 
 -- an output that is not refused has room for all
-room : (f : Fields) (out : ℕ) → writeRefusal f out ≡ 0 → out ≡ 30 + length (f .key) + length (f .commitments) + length (f .exchanges)
+room : (scheme : ℕ) (f : Fields) (out : ℕ) → writeRefusal scheme f out ≡ 0 → out ≡ 30 + length (f .key) + length (f .commitments) + length (f .exchanges)
 unfolding recordLength
-room f out none =
-    let t = taken f out none in
+room scheme f out none =
+    let t = taken scheme f out none in
     let v = t .valid in
     t .exact ∙ omega (arith, v .key-length, v .commitments-length, v .exchanges-length)
 
@@ -26,7 +26,7 @@ write-spec =
     (λ c κs. search needs)
     (λ c. (c .before .write-refusal .ensures, sym (kept-refused _ _ _ (c .if1 .taken))))
     (λ c κs.
-    let fits = room _ _ (sym (c .before .before .write-refusal .ensures) ∙ c .before .if1 .left) in
+    let fits = room _ _ _ (sym (c .before .before .write-refusal .ensures) ∙ c .before .if1 .left) in
     omega arith)
     (λ c. search needs)
     (λ c. (sym (c .before .before .before .before .if1 .left) ∙ c .before .before .before .before .before .write-refusal .ensures, c .before .before .put-record .ensures ∙ sym (kept-accepted 0 _ _ refl))))
