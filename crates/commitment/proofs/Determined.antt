@@ -5,6 +5,7 @@ use mathlib.Core.List.{List, [], _∷_, _++_, map, flatten, append-nil, cons-ne-
 use native.Mathlib.Omega.{arith}
 use lib.ListN.{length, length-append}
 use Rattle.slices.proofs.Parts.{append-split}
+use Rattle.scheme.proofs.Bytes.{byte-determines}
 use Rattle.commitment.specs.declared.Domain.{Domain}
 use Rattle.commitment.specs.Commitment.{prefix, hashedString, inOrder}
 
@@ -14,7 +15,7 @@ use Rattle.commitment.specs.Commitment.{prefix, hashedString, inOrder}
 pub prefix-determines : (d e : Domain) (j k : ℕ) → prefix d j ≡ prefix e k → (d ≡ e) × (j ≡ k)
 unfolding prefix
 prefix-determines d e j k same =
-    let scheme : d .scheme ≡ e .scheme = head-eq-of-cons-eq same in
+    let scheme : d .scheme ≡ e .scheme = byte-determines (d .scheme) (e .scheme) (head-eq-of-cons-eq same) in
     (λ i. record { scheme = scheme i }, head-eq-of-cons-eq (tail-eq-of-cons-eq same))
 
 -- ---- the vectors

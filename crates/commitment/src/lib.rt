@@ -2,17 +2,19 @@
 //
 // Nothing here refuses: a vector contributes as many of its 96 bytes as its length says.
 use field::clamped;
+use scheme::Scheme;
+use scheme::byte_of;
 ghost use mathlib.Core.Path.{_≡_};
 ghost use Prim.Native.Nat.{_+_, _≤_};
 ghost use mathlib.Core.List.{_++_};
 ghost use lib.ListN.{length, take, drop};
 ghost use Rattle.sha256.specs.Sha256.{sha256};
-ghost use Rattle.commitment.specs.Commitment.{prefix, hashedString, Com};
-ghost use Rattle.commitment.specs.Held.{text, Appended};
+ghost use Rattle.commitment.specs.Commitment.{prefix, hashedString, Com, vectorsAt, longest};
+ghost use Rattle.commitment.specs.Texts.{content, Room, TextOf, Appended};
 
 // What stands in a hashed string before ρ, besides the number of the commitment.
 pub struct Domain {
-    pub scheme: u8,
+    pub scheme: Scheme,
 }
 
 // A hashed string, zero beyond its length.
@@ -21,9 +23,16 @@ pub struct Text {
     pub len: usize,
 }
 
+// Where the vectors stand in a string: behind the domain, the number and ρ.
+pub fn vectors_at(d: Domain) -> usize
+    ensures { λ r. ⌜ (r ≡ vectorsAt d) × (r ≤ longest) ⌝ }
+{
+    34
+}
+
 // The bytes with s in the place of those from `at` on.
 fn put(bytes: [u8; 322], at: usize, s: &[u8]) -> [u8; 322]
-    requires { ⌜ at + length (now s) ≤ 322 ⌝ }
+    requires { ⌜ at + length (now s) ≤ longest ⌝ }
     ensures { λ r. ⌜ r ≡ take at bytes ++ (now (s .entry) ++ drop (at + length (now (s .entry))) bytes) ⌝ }
 {
     let mut out = bytes;
@@ -33,10 +42,12 @@ fn put(bytes: [u8; 322], at: usize, s: &[u8]) -> [u8; 322]
 
 // The bytes before the vectors.
 fn start(d: Domain, k: u8, rho: [u8; 32]) -> Text
-    ensures { λ r. ⌜ (r ≡ text (prefix d k ++ rho)) × (r .len ≡ 34) ⌝ }
+    ensures { λ r. ⌜ TextOf (prefix d k ++ rho) 3 r ⌝ }
 {
+    let scheme = d.scheme;
+    let first = byte_of(scheme);
     let mut bytes = [0; 322];
-    bytes[0] = d.scheme;
+    bytes[0] = first;
     bytes[1] = k;
     Text {
         bytes: put(bytes, 2, &rho),
@@ -46,7 +57,7 @@ fn start(d: Domain, k: u8, rho: [u8; 32]) -> Text
 
 // The string with n elements of v behind it.
 fn append(t: Text, v: [u8; 96], n: u8) -> Text
-    requires { ⌜ t .len ≤ 226 ⌝ }
+    requires { ⌜ Room 1 t ⌝ }
     ensures { λ r. ⌜ Appended t (take n v) r ⌝ }
 {
     let bytes = t.bytes;
@@ -58,8 +69,15 @@ fn append(t: Text, v: [u8; 96], n: u8) -> Text
     }
 }
 
-// The string of commitment k: ρ, then na elements of a, nb of b and nc of c.
-pub fn string(
+// The string of commitment k with two vectors: ρ, then na elements of a and nb of b.
+pub fn string_two(d: Domain, k: u8, rho: [u8; 32], a: [u8; 96], na: u8, b: [u8; 96], nb: u8) -> Text
+    ensures { λ r. ⌜ TextOf (hashedString d k rho (take na a ++ take nb b)) 1 r ⌝ }
+{
+    append(append(start(d, k, rho), a, na), b, nb)
+}
+
+// The same with three: nc elements of c behind them.
+pub fn string_three(
     d: Domain,
     k: u8,
     rho: [u8; 32],
@@ -70,46 +88,22 @@ pub fn string(
     c: [u8; 96],
     nc: u8,
 ) -> Text
-    ensures { λ r. ⌜ (r ≡ text (hashedString d k rho (take na a ++ (take nb b ++ take nc c)))) × (r .len ≤ 322) ⌝ }
+    ensures { λ r. ⌜ TextOf (hashedString d k rho (take na a ++ (take nb b ++ take nc c))) 0 r ⌝ }
 {
-    append(append(append(start(d, k, rho), a, na), b, nb), c, nc)
-}
-
-// The same with two vectors.
-pub fn string_two(d: Domain, k: u8, rho: [u8; 32], a: [u8; 96], na: u8, b: [u8; 96], nb: u8) -> Text
-    ensures { λ r. ⌜ (r ≡ text (hashedString d k rho (take na a ++ take nb b))) × (r .len ≤ 322) ⌝ }
-{
-    append(append(start(d, k, rho), a, na), b, nb)
+    append(string_two(d, k, rho, a, na, b, nb), c, nc)
 }
 
 // The digest of a string.
 pub fn digest(t: Text) -> [u8; 32]
-    requires { ⌜ t .len ≤ 322 ⌝ }
-    ensures { λ r. ⌜ r ≡ sha256 (take (t .len) (t .bytes)) ⌝ }
+    requires { ⌜ Room 0 t ⌝ }
+    ensures { λ r. ⌜ r ≡ sha256 (content t) ⌝ }
 {
     let bytes = t.bytes;
     let len = t.len;
     sha256::hash(&bytes[..len])
 }
 
-// Com(k, ρ, a, b, c).
-pub fn commit(
-    d: Domain,
-    k: u8,
-    rho: [u8; 32],
-    a: [u8; 96],
-    na: u8,
-    b: [u8; 96],
-    nb: u8,
-    c: [u8; 96],
-    nc: u8,
-) -> [u8; 32]
-    ensures { λ r. ⌜ r ≡ Com d k rho (take na a ++ (take nb b ++ take nc c)) ⌝ }
-{
-    digest(string(d, k, rho, a, na, b, nb, c, nc))
-}
-
-// The same with two vectors.
+// Com(k, ρ, a, b).
 pub fn commit_two(
     d: Domain,
     k: u8,
@@ -122,4 +116,21 @@ pub fn commit_two(
     ensures { λ r. ⌜ r ≡ Com d k rho (take na a ++ take nb b) ⌝ }
 {
     digest(string_two(d, k, rho, a, na, b, nb))
+}
+
+// Com(k, ρ, a, b, c).
+pub fn commit_three(
+    d: Domain,
+    k: u8,
+    rho: [u8; 32],
+    a: [u8; 96],
+    na: u8,
+    b: [u8; 96],
+    nb: u8,
+    c: [u8; 96],
+    nc: u8,
+) -> [u8; 32]
+    ensures { λ r. ⌜ r ≡ Com d k rho (take na a ++ (take nb b ++ take nc c)) ⌝ }
+{
+    digest(string_three(d, k, rho, a, na, b, nb, c, nc))
 }

@@ -1,6 +1,6 @@
 -- What is formed from bytes that are elements, by card or simulator: vectors, commitments and replies have their lengths and elements. Assumes nothing.
 use Prim.Native.Nat.{ℕ, _+_, _≤_, _<_}
-use mathlib.Core.Path.{_≡_, refl}
+use mathlib.Core.Path.{_≡_}
 use mathlib.Core.Bool.{true}
 use mathlib.Core.List.{List}
 use native.Mathlib.Nat.{lt-of-not-le}
@@ -15,6 +15,7 @@ use Rattle.field.specs.Vector.{asVector, slotV, IsVector, allBelow}
 use Rattle.field.proofs.Modulus.{size-of}
 use Rattle.field.proofs.Fields.{ring}
 use Rattle.sha256.proofs.DigestBytes.{length-sha256}
+use Rattle.commitment.specs.declared.Domain.{Domain}
 use Rattle.commitment.specs.Commitment.{Com}
 use Rattle.system.specs.System.{qOf, nOf, mOf, opsOf, systemRefusal}
 use Rattle.system.proofs.SystemLayout.{accepted, all-below-at, at-all-below}
@@ -83,13 +84,13 @@ module _ (b : List ℕ) (good : systemRefusal b ≡ 0) where
 
 -- ---- commitments
 
-pub are-three : (n m : ℕ) (w : P.Vectors (List ℕ) (List ℕ)) (ρ : Rhos) → AreThree (commitmentsThree n m w ρ)
+pub are-three : (d : Domain) (n m : ℕ) (w : P.Vectors (List ℕ) (List ℕ)) (ρ : Rhos) → AreThree (commitmentsThree d n m w ρ)
 unfolding commitmentsThree Com
-are-three n m w ρ = record { c0-long = length-sha256 _; c1-long = length-sha256 _; c2-long = length-sha256 _ }
+are-three d n m w ρ = record { c0-long = length-sha256 _; c1-long = length-sha256 _; c2-long = length-sha256 _ }
 
-pub are-two : (b s r0 t0 e0 : List ℕ) (ρ : Rhos) → AreTwo (commitmentsFive b s r0 t0 e0 ρ)
+pub are-two : (d : Domain) (b s r0 t0 e0 : List ℕ) (ρ : Rhos) → AreTwo (commitmentsFive d b s r0 t0 e0 ρ)
 unfolding commitmentsFive Com
-are-two b s r0 t0 e0 ρ = record { c0-long = length-sha256 _; c1-long = length-sha256 _; c2-zero = refl }
+are-two d b s r0 t0 e0 ρ = record { c0-long = length-sha256 _; c1-long = length-sha256 _ }
 
 -- ---- a reply of three passes
 

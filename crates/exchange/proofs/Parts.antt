@@ -7,9 +7,12 @@ use lib.ListN.{length, take, drop, length-drop}
 use lib.Seq.{length-take-le, take-all, take-add, getD-take, getD-drop, ext-getD}
 use Rattle.slices.specs.Slices.{_!_}
 use Rattle.field.specs.Vector.{slotV}
+use Rattle.scheme.specs.declared.Scheme.the-variants.{ThreePass, FivePass}
+use Rattle.scheme.specs.Scheme.{commitmentCount, commitmentsLength, turnLength, openedCount, vectorsLength, rhosLength, replyLength}
+use Rattle.round.specs.Openings.{bytesAt, commitmentAt}
 use Rattle.field.proofs.Vectors.{vector-at, length-vector}
-use Rattle.exchange.specs.Messages.{bytesAt, commitmentsIn, middleIn, replyThreeIn, replyFiveIn}
-use Rattle.exchange.specs.Messages.{threeCommitments, fiveCommitments, replyThreeBytes, middleBytes, replyFiveBytes}
+use Rattle.exchange.specs.Messages.{middleIn, replyThreeIn, replyFiveIn}
+use Rattle.exchange.specs.Messages.{replyThreeBytes, middleBytes, replyFiveBytes}
 use Rattle.exchange.proofs.ReadBack.{bytes-back}
 
 -- ---- one part
@@ -40,30 +43,30 @@ first-byte [] h = absurd (omega arith)
 
 -- ---- commitments
 
-pub three-commitments-are : (l : List ℕ) → length l ≡ 96 → threeCommitments (commitmentsIn l) ≡ l
-unfolding threeCommitments commitmentsIn
+pub three-commitments-are : (l : List ℕ) → length l ≡ commitmentsLength ThreePass → commitmentAt l 0 ++ commitmentAt l 1 ++ commitmentAt l 2 ≡ l
+unfolding commitmentAt commitmentsLength commitmentCount
 three-commitments-are l long =
     then l _ (bytesAt 64 l) 64 32 (then l _ (bytesAt 32 l) 32 32 (bytes-are 0 l (omega arith)) (bytes-are 32 l (omega arith))) (bytes-are 64 l (omega arith)) ∙
     take-all 96 l (omega arith)
 
-pub five-commitments-are : (l : List ℕ) → length l ≡ 64 → fiveCommitments (commitmentsIn l) ≡ l
-unfolding fiveCommitments commitmentsIn
+pub five-commitments-are : (l : List ℕ) → length l ≡ commitmentsLength FivePass → commitmentAt l 0 ++ commitmentAt l 1 ≡ l
+unfolding commitmentAt commitmentsLength commitmentCount
 five-commitments-are l long = then l _ (bytesAt 32 l) 32 32 (bytes-are 0 l (omega arith)) (bytes-are 32 l (omega arith)) ∙ take-all 64 l (omega arith)
 
 -- ---- what stands before the challenge, and the reply
 
 module _ (n m : ℕ) (hn : n ≤ 96) (hm : m ≤ 96) (l : List ℕ) where
   -- α, t1, e1
-  pub middle-is : length l ≡ 1 + n + m → (l ! 0) ∷ middleBytes n m (middleIn n m l) ≡ l
-  unfolding middleBytes middleIn
-  middle-is long =
+  pub turn-is : length l ≡ turnLength FivePass n m → (l ! 0) ∷ middleBytes n m (middleIn n m l) ≡ l
+  unfolding middleBytes middleIn turnLength
+  turn-is long =
       then l _ (take m (slotV m (1 + n) l)) (1 + n) m
       (then l ((l ! 0) ∷ []) (take n (slotV n 1 l)) 1 n (first-byte l (omega arith)) (elements-are n 1 l hn (omega arith)))
       (elements-are m (1 + n) l hm (omega arith)) ∙
       take-all (1 + n + m) l (omega arith)
 
-  pub reply-three-is : length l ≡ n + n + m + 64 → replyThreeBytes n m (replyThreeIn n m l) ≡ l
-  unfolding replyThreeBytes replyThreeIn
+  pub reply-three-is : length l ≡ replyLength ThreePass n m → replyThreeBytes n m (replyThreeIn n m l) ≡ l
+  unfolding replyThreeBytes replyThreeIn replyLength vectorsLength rhosLength openedCount
   reply-three-is long =
       let x = elements-are n 0 l hn (omega arith) in
       let y = then l _ _ n n x (elements-are n n l hn (omega arith)) in
@@ -72,6 +75,6 @@ module _ (n m : ℕ) (hn : n ≤ 96) (hm : m ≤ 96) (l : List ℕ) where
       let second = then l _ _ (n + n + m + 32) 32 first (bytes-are (n + n + m + 32) l (omega arith)) in
       second ∙ take-all (n + n + m + 32 + 32) l (omega arith)
 
-  pub reply-five-is : length l ≡ n + 32 → replyFiveBytes n (replyFiveIn n l) ≡ l
-  unfolding replyFiveBytes replyFiveIn
+  pub reply-five-is : length l ≡ replyLength FivePass n m → replyFiveBytes n (replyFiveIn n l) ≡ l
+  unfolding replyFiveBytes replyFiveIn replyLength vectorsLength rhosLength openedCount
   reply-five-is long = then l _ _ n 32 (elements-are n 0 l hn (omega arith)) (bytes-are n l (omega arith)) ∙ take-all (n + 32) l (omega arith)

@@ -1,26 +1,36 @@
--- Reading back what was written: the pieces, lengths and elements of each message, and that zeros behind its end do not matter. Assumes nothing.
-use Prim.Native.Nat.{ℕ, _+_, _≤_, _<_}
-use mathlib.Core.Path.{_≡_, refl, sym, ap, _∙_}
-use mathlib.Core.Bool.{true}
+-- Reading back what was written: the pieces, lengths and elements of each message, and that what stands behind its end does not matter. Assumes nothing.
+use Prim.Native.Nat.{ℕ, _+_, _*_, _≤_, _<_}
+use mathlib.Core.Path.{_≡_, refl, sym, ap, ap₂, _∙_}
+use mathlib.Core.Bool.{true, _&&_}
 use mathlib.Core.List.{List, [], _∷_, _++_}
 use native.Mathlib.Nat.{lt-of-not-le}
 use native.Mathlib.Decide.{decLe}
 use native.Mathlib.Omega.{arith}
 use lib.Dec.{ltb}
-use lib.ListN.{length, take, length-append, length-take, replicate, length-replicate, getD-replicate, List·getD-append, List·getD-eq-default}
+use lib.ListN.{length, take, length-append, length-take, List·getD-append, List·getD-eq-default}
 use lib.Seq.{length-take-le, getD-take, getD-append-add, take-append-le, take-at}
 use Rattle.slices.specs.Slices.{_!_, tabulate}
+use Rattle.slices.specs.Slices.{same as sameBytes}
 use Rattle.slices.proofs.Tabulate.{length-tabulate, tabulate-at, tabulate-beyond, tabulate-of, tabulate-cong}
 use Rattle.slices.proofs.Booleans.{and-left, and-right}
 use Rattle.field.specs.Ops.{Ops}
 use Rattle.field.specs.Vector.{vector, slotV, IsVector, allBelow}
 use Rattle.field.proofs.Vectors.{length-vector, vector-at, vector-beyond, vector-cong}
 use Rattle.system.proofs.SystemLayout.{at-all-below}
-use Rattle.round.specs.declared.pieces.Commitments.{Commitments}
+use Rattle.scheme.specs.declared.Scheme.{Scheme}
+use Rattle.scheme.specs.declared.Scheme.the-variants.{ThreePass, FivePass}
+use Rattle.scheme.specs.Scheme.{commitmentCount, commitmentsLength, openedCount, vectorsLength, rhosLength, replyLength}
+use Rattle.sha256.specs.Sha256.{sha256}
+use Rattle.commitment.specs.declared.Domain.{Domain}
+use Rattle.round.specs.declared.pieces.CommitmentsThree.{CommitmentsThree}
+use Rattle.round.specs.declared.pieces.CommitmentsFive.{CommitmentsFive}
 use Rattle.round.specs.declared.pieces.Middle.{Middle}
 use Rattle.round.specs.declared.pieces.ReplyThree.{ReplyThree}
 use Rattle.round.specs.declared.pieces.ReplyFive.{ReplyFive}
-use Rattle.exchange.specs.Messages.{bytesAt, commitmentsIn, middleIn, replyThreeIn, replyFiveIn, accepts}
+use Rattle.exchange.specs.Messages.{middleIn, replyThreeIn, replyFiveIn, openings, accepts}
+use Rattle.round.specs.Openings.{Opening, stringOf, bytesAt, commitmentAt, opensTo, allOpen}
+use Rattle.round.specs.FivePass.{openingsFive}
+use Rattle.round.proofs.Acceptance.{ThreeAt, TwoAt}
 use Rattle.exchange.specs.Messages.{threeCommitments, fiveCommitments, replyThreeBytes, middleBytes, replyFiveBytes}
 
 -- ---- pieces by place
@@ -87,10 +97,6 @@ same-slot : (n : ℕ) (l k : List ℕ) (place : ℕ) → Reads l k → slotV n p
 unfolding slotV
 same-slot n l k place same = vector-cong n _ _ (λ i h b. same (place + i))
 
-pub same-commitments : (l k : List ℕ) → Reads l k → commitmentsIn l ≡ commitmentsIn k
-unfolding commitmentsIn
-same-commitments l k same = λ i. record { c0 = same-bytes l k 0 same i; c1 = same-bytes l k 32 same i; c2 = same-bytes l k 64 same i }
-
 pub same-middle : (n m : ℕ) (l k : List ℕ) → Reads l k → middleIn n m l ≡ middleIn n m k
 unfolding middleIn
 same-middle n m l k same = λ i. record { t1 = same-slot n l k 1 same i; e1 = same-slot m l k (1 + n) same i }
@@ -98,52 +104,46 @@ same-middle n m l k same = λ i. record { t1 = same-slot n l k 1 same i; e1 = sa
 -- ---- commitments
 
 -- c is three commitments
-pub record AreThree (c : Commitments) : Type 0 where
+pub record AreThree (c : CommitmentsThree) : Type 0 where
   pub c0-long : length (c .c0) ≡ 32
   pub c1-long : length (c .c1) ≡ 32
   pub c2-long : length (c .c2) ≡ 32
 
 -- c is two commitments
-pub record AreTwo (c : Commitments) : Type 0 where
+pub record AreTwo (c : CommitmentsFive) : Type 0 where
   pub c0-long : length (c .c0) ≡ 32
   pub c1-long : length (c .c1) ≡ 32
-  pub c2-zero : c .c2 ≡ replicate 32 0
 
-pub length-three-commitments : (c : Commitments) → AreThree c → length (threeCommitments c) ≡ 96
-unfolding threeCommitments
+pub length-three-commitments : (c : CommitmentsThree) → AreThree c → length (threeCommitments c) ≡ commitmentsLength ThreePass
+unfolding threeCommitments commitmentsLength commitmentCount
 length-three-commitments c k = simp length-append (omega arith)
 
-pub length-five-commitments : (c : Commitments) → AreTwo c → length (fiveCommitments c) ≡ 64
-unfolding fiveCommitments
+pub length-five-commitments : (c : CommitmentsFive) → AreTwo c → length (fiveCommitments c) ≡ commitmentsLength FivePass
+unfolding fiveCommitments commitmentsLength commitmentCount
 length-five-commitments c k = simp length-append (omega arith)
 
-pub three-commitments-back : (c : Commitments) → AreThree c → commitmentsIn (threeCommitments c) ≡ c
-unfolding commitmentsIn threeCommitments
-three-commitments-back c k =
+-- each of them is the commitment of its number among the bytes
+pub three-at : (c : CommitmentsThree) → AreThree c → ThreeAt (threeCommitments c) c
+unfolding commitmentAt threeCommitments
+three-at c k =
     let two : length (c .c0 ++ c .c1) ≡ 64 = simp length-append (omega arith) in
     let l = c .c0 ++ c .c1 ++ c .c2 in
     let s0 = stands-before (c .c0) (c .c1) (c .c0) 0 (omega arith) (stands-last [] (c .c0) 0 refl) in
     let s1 = stands-last (c .c0) (c .c1) 32 (k .c0-long) in
-    let b0 = bytes-back (c .c0) l 0 (k .c0-long) (stands-before (c .c0 ++ c .c1) (c .c2) (c .c0) 0 (omega arith) s0) in
-    let b1 = bytes-back (c .c1) l 32 (k .c1-long) (stands-before (c .c0 ++ c .c1) (c .c2) (c .c1) 32 (omega arith) s1) in
-    let b2 = bytes-back (c .c2) l 64 (k .c2-long) (stands-last (c .c0 ++ c .c1) (c .c2) 64 two) in
-    λ i. record { c0 = b0 i; c1 = b1 i; c2 = b2 i }
+    record {
+      at-0 = bytes-back (c .c0) l 0 (k .c0-long) (stands-before (c .c0 ++ c .c1) (c .c2) (c .c0) 0 (omega arith) s0);
+      at-1 = bytes-back (c .c1) l 32 (k .c1-long) (stands-before (c .c0 ++ c .c1) (c .c2) (c .c1) 32 (omega arith) s1);
+      at-2 = bytes-back (c .c2) l 64 (k .c2-long) (stands-last (c .c0 ++ c .c1) (c .c2) 64 two);
+    }
 
--- beyond the end there are zeros
-pub five-commitments-back : (c : Commitments) → AreTwo c → commitmentsIn (fiveCommitments c) ≡ c
-unfolding commitmentsIn fiveCommitments bytesAt
-five-commitments-back c k =
+pub two-at : (c : CommitmentsFive) → AreTwo c → TwoAt (fiveCommitments c) c
+unfolding commitmentAt fiveCommitments
+two-at c k =
     let l = c .c0 ++ c .c1 in
-    let long : length l ≡ 64 = simp length-append (omega arith) in
-    let b0 = bytes-back (c .c0) l 0 (k .c0-long) (stands-before (c .c0) (c .c1) (c .c0) 0 (omega arith) (stands-last [] (c .c0) 0 refl)) in
-    let b1 = bytes-back (c .c1) l 32 (k .c1-long) (stands-last (c .c0) (c .c1) 32 (k .c0-long)) in
-    let b2 : bytesAt 64 l ≡ c .c2 = sym (k .c2-zero ∙ tabulate-of (replicate 32 0) 32 (λ i. l ! (64 + i)) (length-replicate {A = ℕ} 32 0) (zero-at l long)) in
-    λ i. record { c0 = b0 i; c1 = b1 i; c2 = b2 i }
-  where
-    zero-at : (l : List ℕ) → length l ≡ 64 → (i : ℕ) → i < 32 → replicate 32 0 ! i ≡ l ! (64 + i)
-    zero-at l long i h =
-        let beyond : length l ≤ 64 + i = omega arith in
-        getD-replicate {A = ℕ} 32 i 0 0 h ∙ sym (List·getD-eq-default l 0 beyond)
+    record {
+      at-0 = bytes-back (c .c0) l 0 (k .c0-long) (stands-before (c .c0) (c .c1) (c .c0) 0 (omega arith) (stands-last [] (c .c0) 0 refl));
+      at-1 = bytes-back (c .c1) l 32 (k .c1-long) (stands-last (c .c0) (c .c1) 32 (k .c0-long));
+    }
 
 -- ---- elements
 
@@ -181,8 +181,8 @@ module _ (o : Ops) where
     after-first : length (take n (r .x) ++ take n (r .y) ++ take m (r .z) ++ r .first) ≡ n + n + m + 32
     after-first = length-append (take n (r .x) ++ take n (r .y) ++ take m (r .z)) _ ∙ simp (after-z, k .first-long)
 
-    pub reply-three-length : length (replyThreeBytes n m r) ≡ n + n + m + 64
-    unfolding replyThreeBytes
+    pub reply-three-length : length (replyThreeBytes n m r) ≡ replyLength ThreePass n m
+    unfolding replyThreeBytes replyLength vectorsLength rhosLength openedCount
     reply-three-length = length-append (take n (r .x) ++ take n (r .y) ++ take m (r .z) ++ r .first) _ ∙ omega (arith, after-first, k .second-long)
 
     pub reply-three-back : replyThreeIn n m (replyThreeBytes n m r) ≡ r
@@ -228,8 +228,8 @@ module _ (o : Ops) where
     pub x-is : IsVector o n (r .x)
     pub rho-long : length (r .rho) ≡ 32
 
-  pub reply-five-length : (n : ℕ) (r : ReplyFive) → n ≤ 96 → IsReplyFive n r → length (replyFiveBytes n r) ≡ n + 32
-  unfolding replyFiveBytes
+  pub reply-five-length : (n : ℕ) (r : ReplyFive) → n ≤ 96 → IsReplyFive n r → length (replyFiveBytes n r) ≡ n + rhosLength FivePass
+  unfolding replyFiveBytes rhosLength openedCount
   reply-five-length n r hn k = let x-long = length-padded n (r .x) hn (k .x-is .padded) in simp length-append (omega (arith, k .rho-long))
 
   pub reply-five-back : (n : ℕ) (r : ReplyFive) → n ≤ 96 → IsReplyFive n r → replyFiveIn n (replyFiveBytes n r) ≡ r
@@ -277,9 +277,23 @@ module _ (o : Ops) where
   middle-below n m sent k =
       below-append (o .size) (take n (sent .t1)) (take m (sent .e1)) (below-vector n (sent .t1) (k .t1-is)) (below-vector m (sent .e1) (k .e1-is))
 
--- ---- the judgement does not depend on how commitments, α, t1 and e1 are held
+-- ---- the judgement does not depend on how commitments and turn are held
 
-pub same-verdict : (b : List ℕ) (scheme : ℕ) (v c c′ middle middle′ : List ℕ) (challenge : ℕ) (reply : List ℕ) → Reads c c′ → Reads middle middle′ →
-    accepts b scheme v c middle challenge reply ≡ accepts b scheme v c′ middle′ challenge reply
+same-open : (d : Domain) (c c′ : List ℕ) → Reads c c′ → (os : List Opening) → allOpen d c os ≡ allOpen d c′ os
+unfolding allOpen opensTo commitmentAt
+same-open d c c′ same [] = refl
+same-open d c c′ same (o ∷ os) =
+    ap₂ _&&_ (ap (λ (l : List ℕ). sameBytes (sha256 (stringOf d o)) l) (same-bytes c c′ (32 * o .k) same)) (same-open d c c′ same os)
+
+same-openings : (b : List ℕ) (scheme : Scheme) (v turn turn′ : List ℕ) (challenge : ℕ) (reply : List ℕ) → Reads turn turn′ →
+    openings b scheme v turn challenge reply ≡ openings b scheme v turn′ challenge reply
+unfolding openings
+same-openings b ThreePass v turn turn′ challenge reply same = refl
+same-openings b FivePass v turn turn′ challenge reply same =
+    ap₂ (λ (α : ℕ) (sent : Middle). openingsFive b α v sent challenge (replyFiveIn (b ! 1) reply)) (same 0) (same-middle (b ! 1) (b ! 2) turn turn′ same)
+
+pub same-verdict : (b : List ℕ) (d : Domain) (v c c′ turn turn′ : List ℕ) (challenge : ℕ) (reply : List ℕ) → Reads c c′ → Reads turn turn′ →
+    accepts b d v c turn challenge reply ≡ accepts b d v c′ turn′ challenge reply
 unfolding accepts
-same-verdict b scheme v c c′ middle middle′ challenge reply hc hm = rw (same-commitments c c′ hc, hm 0, same-middle (b ! 1) (b ! 2) middle middle′ hm)
+same-verdict b d v c c′ turn turn′ challenge reply hc ht =
+    ap (allOpen d c) (same-openings b (d .scheme) v turn turn′ challenge reply ht) ∙ same-open d c c′ hc (openings b (d .scheme) v turn′ challenge reply)

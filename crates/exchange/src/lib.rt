@@ -9,13 +9,12 @@ mod write;
 
 pub use judging::judge;
 pub use read::Lent;
-pub use read::read_commitments;
 pub use read::read_lent;
 pub use read::read_middle;
 pub use read::read_reply_five;
 pub use read::read_reply_three;
-pub use write::write_commitments;
+pub use write::write_five_commitments;
 pub use write::write_middle;
 pub use write::write_reply_five;
 pub use write::write_reply_three;
-pub use write::write_two_commitments;
+pub use write::write_three_commitments;

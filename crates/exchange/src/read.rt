@@ -1,24 +1,12 @@
 // Messages taken apart.
 use field::slot;
-use round::Commitments;
 use round::Middle;
 use round::ReplyFive;
 use round::ReplyThree;
 use round::Rhos;
 use slices::bytes32;
 ghost use mathlib.Core.Path.{_≡_};
-ghost use Rattle.exchange.specs.Messages.{commitmentsIn, lentIn, middleIn, replyThreeIn, replyFiveIn};
-
-// Two or three commitments of 32 bytes.
-pub fn read_commitments(s: &[u8]) -> Commitments
-    ensures { λ r. ⌜ r ≡ commitmentsIn (now (s .entry)) ⌝ }
-{
-    Commitments {
-        c0: bytes32(s, 0),
-        c1: bytes32(s, 32),
-        c2: bytes32(s, 64),
-    }
-}
+ghost use Rattle.exchange.specs.Messages.{lentIn, middleIn, replyThreeIn, replyFiveIn};
 
 // t1 and e1, behind α.
 pub fn read_middle(s: &[u8], n: u8, m: u8) -> Middle

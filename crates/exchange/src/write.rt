@@ -1,5 +1,6 @@
 // Messages put together in a lent output of their length.
-use round::Commitments;
+use round::CommitmentsFive;
+use round::CommitmentsThree;
 use round::Middle;
 use round::ReplyFive;
 use round::ReplyThree;
@@ -8,6 +9,8 @@ ghost use mathlib.Core.Path.{_≡_};
 ghost use Prim.Native.Nat.{_+_, _≤_};
 ghost use lib.ListN.{length, take};
 ghost use Rattle.slices.specs.Slices.{placed};
+ghost use Rattle.scheme.specs.declared.Scheme.the-variants.{ThreePass, FivePass};
+ghost use Rattle.scheme.specs.Scheme.{commitmentsLength, rhosLength, replyLength};
 ghost use Rattle.exchange.specs.Messages.{threeCommitments, fiveCommitments, replyThreeBytes, middleBytes, replyFiveBytes};
 
 // Puts n elements of v from `at` on.
@@ -26,9 +29,9 @@ fn put_bytes(out: &mut [u8], at: usize, b: [u8; 32])
     put(out, at, &b);
 }
 
-// c0, c1 and c2.
-pub fn write_commitments(c: Commitments, out: &mut [u8])
-    requires { ⌜ length (now out) ≡ 96 ⌝ }
+// c0, c1 and c2 of three passes.
+pub fn write_three_commitments(c: CommitmentsThree, out: &mut [u8])
+    requires { ⌜ length (now out) ≡ commitmentsLength ThreePass ⌝ }
     ensures { λ _. ⌜ now (out .exit) ≡ threeCommitments c ⌝ }
 {
     let c0 = c.c0;
@@ -41,7 +44,7 @@ pub fn write_commitments(c: Commitments, out: &mut [u8])
 
 // A reply of three passes.
 pub fn write_reply_three(r: ReplyThree, n: u8, m: u8, out: &mut [u8])
-    requires { ⌜ (n ≤ 96) × (m ≤ 96) × (length (now out) ≡ n + n + m + 64) ⌝ }
+    requires { ⌜ (n ≤ 96) × (m ≤ 96) × (length (now out) ≡ replyLength ThreePass n m) ⌝ }
     ensures { λ _. ⌜ now (out .exit) ≡ replyThreeBytes n m r ⌝ }
 {
     let after_x = n as usize;
@@ -59,9 +62,9 @@ pub fn write_reply_three(r: ReplyThree, n: u8, m: u8, out: &mut [u8])
     put_bytes(out, after_z + 32, second);
 }
 
-// c0 and c1.
-pub fn write_two_commitments(c: Commitments, out: &mut [u8])
-    requires { ⌜ length (now out) ≡ 64 ⌝ }
+// c0 and c1 of five passes.
+pub fn write_five_commitments(c: CommitmentsFive, out: &mut [u8])
+    requires { ⌜ length (now out) ≡ commitmentsLength FivePass ⌝ }
     ensures { λ _. ⌜ now (out .exit) ≡ fiveCommitments c ⌝ }
 {
     let c0 = c.c0;
@@ -83,7 +86,7 @@ pub fn write_middle(sent: Middle, n: u8, m: u8, out: &mut [u8])
 
 // A reply of five passes.
 pub fn write_reply_five(r: ReplyFive, n: u8, out: &mut [u8])
-    requires { ⌜ (n ≤ 96) × (length (now out) ≡ n + 32) ⌝ }
+    requires { ⌜ (n ≤ 96) × (length (now out) ≡ n + rhosLength FivePass) ⌝ }
     ensures { λ _. ⌜ now (out .exit) ≡ replyFiveBytes n r ⌝ }
 {
     let x = r.x;

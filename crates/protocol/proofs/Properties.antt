@@ -16,7 +16,7 @@ module _ {X Y S : Type 0} {o : QuadraticOps X Y S} {IsX : X → Type 0} {IsY : Y
   -- ---- both schemes
 
   -- s = r0 + r1 splits F(s)
-  F-split : (s r0 : X) → IsX s → F s ≡ addY (F (r1Of o s r0)) (addY (F r0) (G r0 (r1Of o s r0)))
+  F-split : (s r0 : X) → IsX s → F s ≡ addY (F (r1Of subX s r0)) (addY (F r0) (G r0 (r1Of subX s r0)))
   unfolding r1Of
   F-split s r0 h =
       ap F (sym (k .groupX .add-comm r0 _ ∙ k .groupX .sub-add s r0 h)) ∙
@@ -50,7 +50,7 @@ module _ {X Y S : Type 0} {o : QuadraticOps X Y S} {IsX : X → Type 0} {IsY : Y
   -- ---- three passes
 
   opened-three : (v y : Y) (r0 t0 r1 : X) (e0 : Y) → IsX r0 → IsY y → addY (F r1) (addY y (G r0 r1)) ≡ v →
-      unmasked o v r1 (t1Of o r0 t0) (subY y e0) ≡ masked o t0 r1 e0
+      unmasked o v r1 (t1Of subX r0 t0) (subY y e0) ≡ masked o t0 r1 e0
   unfolding unmasked t1Of
   opened-three v y r0 t0 r1 e0 hr hy e = opened _ y r0 t0 r1 e0 hr hy (sub-of (k .groupY) v (F r1) _ (k .groupY .add-is y _) e)
 
@@ -62,7 +62,7 @@ module _ {X Y S : Type 0} {o : QuadraticOps X Y S} {IsX : X → Type 0} {IsY : Y
       record {
         zero-t = λ c. sub-sub (k .groupX) r0 t0 hr ht;
         zero-e = λ c. sub-sub (k .groupY) (F r0) e0 (k .F-is r0) he;
-        one = λ c. opened-three v (F r0) r0 t0 (r1Of o s r0) e0 hr (k .F-is r0) (sym (F-split s r0 hs) ∙ e);
+        one = λ c. opened-three v (F r0) r0 t0 (r1Of subX s r0) e0 hr (k .F-is r0) (sym (F-split s r0 hs) ∙ e);
         two = λ c. refl;
       }
 
@@ -86,10 +86,10 @@ module _ {X Y S : Type 0} {o : QuadraticOps X Y S} {IsX : X → Type 0} {IsY : Y
       record {
         zero-t = λ c. sub-sub (k .groupX) (mulX α r0) t0 (k .mulX-is α r0) ht;
         zero-e = λ c. sub-sub (k .groupY) (mulY α (F r0)) e0 (k .mulY-is α _) he;
-        one = λ c. opened _ (mulY α (F r0)) (mulX α r0) t0 (r1Of o s r0) e0 (k .mulX-is α r0) (k .mulY-is α _)
-            (ap (mulY α) (sub-of (k .groupY) v (F (r1Of o s r0)) _ (k .groupY .add-is _ _) (sym (F-split s r0 hs) ∙ e)) ∙
-            k .mul-add α (F r0) (G r0 (r1Of o s r0)) ∙
-            ap (addY (mulY α (F r0))) (sym (k .G-mul α r0 (r1Of o s r0))));
+        one = λ c. opened _ (mulY α (F r0)) (mulX α r0) t0 (r1Of subX s r0) e0 (k .mulX-is α r0) (k .mulY-is α _)
+            (ap (mulY α) (sub-of (k .groupY) v (F (r1Of subX s r0)) _ (k .groupY .add-is _ _) (sym (F-split s r0 hs) ∙ e)) ∙
+            k .mul-add α (F r0) (G r0 (r1Of subX s r0)) ∙
+            ap (addY (mulY α (F r0))) (sym (k .G-mul α r0 (r1Of subX s r0))));
       }
 
   -- α(v - F(r1)) and α(F(r0) + G(r0,r1)) differ by what the openings show
@@ -125,7 +125,7 @@ module _ {X Y S : Type 0} {o : QuadraticOps X Y S} {IsX : X → Type 0} {IsY : Y
       (challenge : ℕ) → (challenge ≡ unanswered → ⊥) → OpensThree o v (simulated o unanswered v s′ r0 t0 e0) challenge
   unfolding simulated simulatedE1 simulatedMask t1Of e1Of t0Of e0Of
   simulates zero h v s′ r0 t0 e0 hv hs hr ht he challenge differ =
-      let r1 = r1Of o s′ r0 in
+      let r1 = r1Of subX s′ r0 in
       let d = subY v (F s′) in
       let g = G r0 r1 in
       let sorted : addY (F r1) (addY (addY d (F r0)) g) ≡ addY d (addY (F r1) (addY (F r0) g)) = simp (k .groupY .add-assoc, add-left-comm (k .groupY)) in

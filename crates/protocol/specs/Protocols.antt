@@ -26,18 +26,24 @@ pub record AreElements {X Y : Type 0} (IsX : X → Type 0) (IsY : Y → Type 0) 
   pub e1-is : IsY (w .e1)
   pub mask-is : IsY (w .mask)
 
+-- ---- by the difference of vectors alone: the card forms them for its reply, when no system is lent to it
+module _ {X : Type 0} (sub : X → X → X) where
+  -- "r1 = s - r0", in both schemes
+  unfoldable pub r1Of : X → X → X
+  r1Of s r0 = sub s r0
+
+  -- "t1 = r0 - t0"
+  unfoldable pub t1Of : X → X → X
+  t1Of r0 t0 = sub r0 t0
+
+  -- "0: .. Opens c1 with (r0 - t1, F(r0) - e1)": its first vector
+  unfoldable pub t0Of : X → X → X
+  t0Of r0 t1 = sub r0 t1
+
 module _ {X Y S : Type 0} (o : QuadraticOps X Y S) where
   open QuadraticOps o using (addX, subX, mulX, addY, subY, mulY, F, G)
 
   -- ---- three passes
-
-  -- "r1 = s - r0", in both schemes
-  unfoldable pub r1Of : X → X → X
-  r1Of s r0 = subX s r0
-
-  -- "t1 = r0 - t0"
-  unfoldable pub t1Of : X → X → X
-  t1Of r0 t0 = subX r0 t0
 
   -- "e1 = F(r0) - e0"
   unfoldable pub e1Of : X → Y → Y
@@ -47,11 +53,7 @@ module _ {X Y S : Type 0} (o : QuadraticOps X Y S) where
   unfoldable pub masked : X → X → Y → Y
   masked t0 r1 e0 = addY (G t0 r1) e0
 
-  -- "0: .. Opens c1 with (r0 - t1, F(r0) - e1)": its first vector
-  unfoldable pub t0Of : X → X → X
-  t0Of r0 t1 = subX r0 t1
-
-  -- and its second
+  -- "0: .. Opens c1 with (r0 - t1, F(r0) - e1)": its second vector
   unfoldable pub e0Of : X → Y → Y
   e0Of r0 e1 = subY (F r0) e1
 
@@ -62,13 +64,13 @@ module _ {X Y S : Type 0} (o : QuadraticOps X Y S) where
   -- "Lent .. r0 (n), t0 (n), e0 (m) .. Then r1 = s - r0, t1 = r0 - t0, e1 = F(r0) - e0." and c0's second vector
   unfoldable pub cardThree : X → X → X → Y → Vectors X Y
   cardThree s r0 t0 e0 =
-      let r1 = r1Of s r0 in
-      record { r0 = r0; r1 = r1; t0 = t0; t1 = t1Of r0 t0; e0 = e0; e1 = e1Of r0 e0; mask = masked t0 r1 e0 }
+      let r1 = r1Of subX s r0 in
+      record { r0 = r0; r1 = r1; t0 = t0; t1 = t1Of subX r0 t0; e0 = e0; e1 = e1Of r0 e0; mask = masked t0 r1 e0 }
 
   -- each vector with which the reply to the challenge opens a commitment is the one committed to. The vectors of a reply that are opened as they are, as
   -- "c2 with (t1, e1)", are those of the commitment
   pub record OpensThree (v : Y) (w : Vectors X Y) (challenge : ℕ) : Type 0 where
-    pub zero-t : challenge ≡ 0 → t0Of (w .r0) (w .t1) ≡ w .t0
+    pub zero-t : challenge ≡ 0 → t0Of subX (w .r0) (w .t1) ≡ w .t0
     pub zero-e : challenge ≡ 0 → e0Of (w .r0) (w .e1) ≡ w .e0
     pub one : challenge ≡ 1 → unmasked v (w .r1) (w .t1) (w .e1) ≡ w .mask
     pub two : challenge ≡ 2 → masked (w .t0) (w .r1) (w .e0) ≡ w .mask
@@ -77,7 +79,7 @@ module _ {X Y S : Type 0} (o : QuadraticOps X Y S) where
   pub record AgreeThree (v : Y) (r0 t1 : X) (e1 : Y) (r1 t1′ : X) (e1′ : Y) (r1′ t0 : X) (e0 : Y) : Type 0 where
     pub c0-r : r1 ≡ r1′
     pub c0-mask : unmasked v r1 t1′ e1′ ≡ masked t0 r1′ e0
-    pub c1-t : t0Of r0 t1 ≡ t0
+    pub c1-t : t0Of subX r0 t1 ≡ t0
     pub c1-e : e0Of r0 e1 ≡ e0
     pub c2-t : t1 ≡ t1′
     pub c2-e : e1 ≡ e1′
@@ -107,7 +109,7 @@ module _ {X Y S : Type 0} (o : QuadraticOps X Y S) where
   -- "Lent .. r0, t0, e0 .. r1 = s - r0", t1 and e1 for α, and c1's second vector
   unfoldable pub cardFive : S → X → X → X → Y → Vectors X Y
   cardFive α s r0 t0 e0 =
-      let r1 = r1Of s r0 in
+      let r1 = r1Of subX s r0 in
       record { r0 = r0; r1 = r1; t0 = t0; t1 = t1By α r0 t0; e0 = e0; e1 = e1By α r0 e0; mask = masked t0 r1 e0 }
 
   -- each vector with which the reply to the challenge opens its commitment is the one committed to
@@ -134,10 +136,10 @@ module _ {X Y S : Type 0} (o : QuadraticOps X Y S) where
   unfoldable pub simulatedMask : ℕ → Y → X → X → X → Y → Y → Y
   simulatedMask unanswered v r1 t0 t1 e0 e1 = cond (eqb unanswered 2) (unmasked v r1 t1 e1) (masked t0 r1 e0)
 
-  -- "it forms r1 = s' - r0, t1 = r0 - t0"; `unanswered` is Ch*, the challenge to which it cannot reply
+  -- "it forms r1 = s' - r0, t1 = r0 - t0"; `unanswered` is Ch*, the challenge that is not answered
   unfoldable pub simulated : ℕ → Y → X → X → X → Y → Vectors X Y
   simulated unanswered v s′ r0 t0 e0 =
-      let r1 = r1Of s′ r0 in
-      let t1 = t1Of r0 t0 in
+      let r1 = r1Of subX s′ r0 in
+      let t1 = t1Of subX r0 t0 in
       let e1 = simulatedE1 unanswered v s′ r0 e0 in
       record { r0 = r0; r1 = r1; t0 = t0; t1 = t1; e0 = e0; e1 = e1; mask = simulatedMask unanswered v r1 t0 t1 e0 e1 }

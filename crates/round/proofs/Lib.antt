@@ -1,2 +1,3 @@
 -- Honest and simulated rounds are accepted.
 pub mod Acceptance
+pub mod Clauses

@@ -1,16 +1,9 @@
 -- What is sent and lent, as the code holds it, in the terms of the protocols' definitions.
 use mathlib.Core.List.{List}
 use Prim.Native.Nat.{ℕ}
-use mathlib.Core.Bool.{cond}
-use lib.Dec.{eqb}
 use Rattle.protocol.specs.Protocols as P
-use Rattle.round.specs.declared.pieces.Commitments.{Commitments}
 use Rattle.round.specs.declared.pieces.Vectors.{Vectors}
 
 -- the code's vectors of a round as the definitions' record
 abbrev pub vectorsOf : Vectors → P.Vectors (List ℕ) (List ℕ)
 vectorsOf w = record { r0 = w .r0; r1 = w .r1; t0 = w .t0; t1 = w .t1; e0 = w .e0; e1 = w .e1; mask = w .mask }
-
--- commitment k
-unfoldable pub commitment : Commitments → ℕ → List ℕ
-commitment c k = cond (eqb k 0) (c .c0) (cond (eqb k 1) (c .c1) (c .c2))

@@ -8,10 +8,27 @@ use polynomials::f;
 use polynomials::g;
 use slices::byte_at;
 ghost use mathlib.Core.Path.{_≡_};
+ghost use Rattle.field.specs.Ops.{ops};
+ghost use Rattle.field.specs.Vector.{subV};
 ghost use Rattle.system.specs.System.{systemRefusal};
-ghost use Rattle.protocol.specs.Protocols.{cardThree, t1By, e1By, unmasked, simulatedE1, simulatedMask, simulated as simulatedOf};
+ghost use Rattle.protocol.specs.Protocols.{r1Of, t1Of, cardThree, unmasked, simulatedE1, simulatedMask, simulated as simulatedOf};
 ghost use Rattle.protocol.specs.Rounds.{mapOf};
 ghost use Rattle.round.specs.Pieces.{vectorsOf};
+ghost use Rattle.round.specs.FivePass.{middleFive};
+
+// r1 = s - r0.
+pub fn r1_of(q: u8, n: u8, s: [u8; 96], r0: [u8; 96]) -> [u8; 96]
+    ensures { λ r. ⌜ r ≡ r1Of (subV (ops q) n) s r0 ⌝ }
+{
+    sub_vectors(q, n, s, r0)
+}
+
+// t1 = r0 - t0, of three passes.
+pub fn t1_of(q: u8, n: u8, r0: [u8; 96], t0: [u8; 96]) -> [u8; 96]
+    ensures { λ r. ⌜ r ≡ t1Of (subV (ops q) n) r0 t0 ⌝ }
+{
+    sub_vectors(q, n, r0, t0)
+}
 
 // Three passes: r1, t1, e1 and c0's second vector.
 pub fn card_three(system: &[u8], s: [u8; 96], r0: [u8; 96], t0: [u8; 96], e0: [u8; 96]) -> Vectors
@@ -21,12 +38,12 @@ pub fn card_three(system: &[u8], s: [u8; 96], r0: [u8; 96], t0: [u8; 96], e0: [u
     let q = byte_at(system, 0);
     let n = byte_at(system, 1);
     let m = byte_at(system, 2);
-    let r1 = sub_vectors(q, n, s, r0);
+    let r1 = r1_of(q, n, s, r0);
     Vectors {
         r0: r0,
         r1: r1,
         t0: t0,
-        t1: sub_vectors(q, n, r0, t0),
+        t1: t1_of(q, n, r0, t0),
         e0: e0,
         e1: sub_vectors(q, m, f(system, r0), e0),
         mask: add_vectors(q, m, g(system, t0, r1), e0),
@@ -36,7 +53,7 @@ pub fn card_three(system: &[u8], s: [u8; 96], r0: [u8; 96], t0: [u8; 96], e0: [u
 // Five passes: t1 and e1 for α.
 pub fn middle(system: &[u8], alpha: u8, r0: [u8; 96], t0: [u8; 96], e0: [u8; 96]) -> Middle
     requires { ⌜ systemRefusal (now system) ≡ 0 ⌝ }
-    ensures { λ r. ⌜ (r .t1 ≡ t1By (mapOf (now (system .entry))) alpha r0 t0) × (r .e1 ≡ e1By (mapOf (now (system .entry))) alpha r0 e0) ⌝ }
+    ensures { λ r. ⌜ r ≡ middleFive (now (system .entry)) alpha r0 t0 e0 ⌝ }
 {
     let q = byte_at(system, 0);
     let n = byte_at(system, 1);
@@ -58,7 +75,7 @@ pub fn unmask(system: &[u8], v: [u8; 96], r1: [u8; 96], t1: [u8; 96], e1: [u8; 9
     sub_vectors(q, m, sub_vectors(q, m, left, g(system, t1, r1)), e1)
 }
 
-// The simulator's e1, where `unanswered` is the challenge to which it cannot reply.
+// The simulator's e1; `unanswered` is Ch*, the challenge that is not answered.
 fn simulated_e1(
     system: &[u8],
     unanswered: u8,
@@ -118,8 +135,8 @@ pub fn simulated(
 {
     let q = byte_at(system, 0);
     let n = byte_at(system, 1);
-    let r1 = sub_vectors(q, n, s, r0);
-    let t1 = sub_vectors(q, n, r0, t0);
+    let r1 = r1_of(q, n, s, r0);
+    let t1 = t1_of(q, n, r0, t0);
     let e1 = simulated_e1(system, unanswered, v, s, r0, e0);
     Vectors {
         r0: r0,

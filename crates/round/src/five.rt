@@ -1,13 +1,14 @@
 // Five passes: the commitments, the reply to a challenge, and the string with which a reply opens one of them.
-use crate::pieces::Commitments;
+use crate::card::r1_of;
+use crate::pieces::CommitmentsFive;
 use crate::pieces::Middle;
 use crate::pieces::ReplyFive;
 use crate::pieces::Rhos;
 use commitment::Domain;
 use commitment::Text;
-use commitment::commit;
+use commitment::commit_three;
 use commitment::commit_two;
-use commitment::string;
+use commitment::string_three;
 use commitment::string_two;
 use field::add_vectors;
 use field::mul_vector;
@@ -16,36 +17,36 @@ use polynomials::f;
 use polynomials::g;
 use slices::byte_at;
 ghost use mathlib.Core.Path.{_≡_};
-ghost use Prim.Native.Nat.{_≤_};
 ghost use Rattle.system.specs.System.{systemRefusal};
-ghost use Rattle.commitment.specs.Held.{text};
+ghost use Rattle.commitment.specs.Texts.{TextOf};
 ghost use Rattle.protocol.specs.Protocols.{unmaskedBy};
 ghost use Rattle.protocol.specs.Rounds.{mapOf};
-ghost use Rattle.round.specs.FivePass.{commitmentsFive, replyFive, openingFive};
+ghost use Rattle.round.specs.Openings.{stringOf, openingAt};
+ghost use Rattle.round.specs.FivePass.{commitmentsFive, replyFive, openingsFive};
 
 // c0 and c1.
 pub fn commitments_five(
+    d: Domain,
     system: &[u8],
     s: [u8; 96],
     r0: [u8; 96],
     t0: [u8; 96],
     e0: [u8; 96],
     rhos: Rhos,
-) -> Commitments
+) -> CommitmentsFive
     requires { ⌜ systemRefusal (now system) ≡ 0 ⌝ }
-    ensures { λ r. ⌜ r ≡ commitmentsFive (now (system .entry)) s r0 t0 e0 rhos ⌝ }
+    ensures { λ r. ⌜ r ≡ commitmentsFive d (now (system .entry)) s r0 t0 e0 rhos ⌝ }
 {
     let q = byte_at(system, 0);
     let n = byte_at(system, 1);
     let m = byte_at(system, 2);
     let rho0 = rhos.rho0;
     let rho1 = rhos.rho1;
-    let r1 = sub_vectors(q, n, s, r0);
+    let r1 = r1_of(q, n, s, r0);
     let mask = add_vectors(q, m, g(system, t0, r1), e0);
-    Commitments {
-        c0: commit(Domain { scheme: 5 }, 0, rho0, r0, n, t0, n, e0, m),
-        c1: commit_two(Domain { scheme: 5 }, 1, rho1, r1, n, mask, m),
-        c2: [0; 32],
+    CommitmentsFive {
+        c0: commit_three(d, 0, rho0, r0, n, t0, n, e0, m),
+        c1: commit_two(d, 1, rho1, r1, n, mask, m),
     }
 }
 
@@ -58,7 +59,7 @@ pub fn reply_five(q: u8, n: u8, s: [u8; 96], r0: [u8; 96], rhos: Rhos, challenge
     match challenge {
         0 => ReplyFive { x: r0, rho: rho0 },
         _ => ReplyFive {
-            x: sub_vectors(q, n, s, r0),
+            x: r1_of(q, n, s, r0),
             rho: rho1,
         },
     }
@@ -85,6 +86,7 @@ fn unmasked_by(
 // The string of the opening: of c0 for challenge 0, else of c1.
 pub fn opening_five(
     system: &[u8],
+    d: Domain,
     alpha: u8,
     v: [u8; 96],
     sent: Middle,
@@ -92,7 +94,7 @@ pub fn opening_five(
     reply: ReplyFive,
 ) -> Text
     requires { ⌜ systemRefusal (now system) ≡ 0 ⌝ }
-    ensures { λ r. ⌜ (r ≡ text (openingFive (now (system .entry)) alpha v sent challenge reply)) × (r .len ≤ 322) ⌝ }
+    ensures { λ t. ⌜ TextOf (stringOf d (openingAt (openingsFive (now (system .entry)) alpha v sent challenge reply) 0)) 0 t ⌝ }
 {
     let q = byte_at(system, 0);
     let n = byte_at(system, 1);
@@ -105,11 +107,11 @@ pub fn opening_five(
         0 => {
             let t0 = sub_vectors(q, n, mul_vector(q, n, alpha, x), t1);
             let e0 = sub_vectors(q, m, mul_vector(q, m, alpha, f(system, x)), e1);
-            string(Domain { scheme: 5 }, 0, rho, x, n, t0, n, e0, m)
+            string_three(d, 0, rho, x, n, t0, n, e0, m)
         }
         _ => {
             let mask = unmasked_by(system, alpha, v, x, t1, e1);
-            string_two(Domain { scheme: 5 }, 1, rho, x, n, mask, m)
+            string_two(d, 1, rho, x, n, mask, m)
         }
     }
 }

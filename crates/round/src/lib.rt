@@ -10,11 +10,14 @@ mod three;
 
 pub use card::card_three;
 pub use card::middle;
+pub use card::r1_of;
 pub use card::simulated;
+pub use card::t1_of;
 pub use five::commitments_five;
 pub use five::opening_five;
 pub use five::reply_five;
-pub use pieces::Commitments;
+pub use pieces::CommitmentsFive;
+pub use pieces::CommitmentsThree;
 pub use pieces::Middle;
 pub use pieces::ReplyFive;
 pub use pieces::ReplyThree;

@@ -18,11 +18,17 @@ pub struct Rhos {
     pub rho2: [u8; 32],
 }
 
-// c0, c1, c2; scheme 5 has no c2.
-pub struct Commitments {
+// The commitments of three passes, as the card forms them. Whoever takes commitments holds their bytes.
+pub struct CommitmentsThree {
     pub c0: [u8; 32],
     pub c1: [u8; 32],
     pub c2: [u8; 32],
+}
+
+// And of five.
+pub struct CommitmentsFive {
+    pub c0: [u8; 32],
+    pub c1: [u8; 32],
 }
 
 // A reply of three passes: two vectors of n elements and one of m, and the ρ of the two commitments that it opens.
@@ -34,7 +40,7 @@ pub struct ReplyThree {
     pub second: [u8; 32],
 }
 
-// The card's reply to α.
+// The card's answer to α.
 pub struct Middle {
     pub t1: [u8; 96],
     pub e1: [u8; 96],

@@ -1,6 +1,6 @@
 // Three passes: the commitments, the reply to a challenge, and the strings with which a reply opens two of them.
 use crate::card::unmask;
-use crate::pieces::Commitments;
+use crate::pieces::CommitmentsThree;
 use crate::pieces::ReplyThree;
 use crate::pieces::Rhos;
 use crate::pieces::Vectors;
@@ -13,17 +13,19 @@ use field::sub_vectors;
 use polynomials::f;
 use polynomials::g;
 use slices::byte_at;
+ghost use Prim.Native.Nat.{ℕ};
 ghost use mathlib.Core.Path.{_≡_};
-ghost use Prim.Native.Nat.{_≤_};
+ghost use mathlib.Core.List.{List};
 ghost use Rattle.system.specs.System.{systemRefusal};
-ghost use Rattle.commitment.specs.Held.{text};
-ghost use Rattle.protocol.specs.Rounds.{mapOf};
+ghost use Rattle.commitment.specs.Texts.{TextOf};
+ghost use Rattle.round.specs.declared.pieces.ReplyThree.{ReplyThree as ReplyThree·};
 ghost use Rattle.round.specs.Pieces.{vectorsOf};
-ghost use Rattle.round.specs.ThreePass.{commitmentsThree, replyThree, openedFirst, openedSecond, firstNumber, secondNumber, firstString, secondString};
+ghost use Rattle.round.specs.Openings.{stringOf, openingAt};
+ghost use Rattle.round.specs.ThreePass.{commitmentsThree, replyThree, openingsThree};
 
 // c0, c1 and c2.
-pub fn commitments_three(n: u8, m: u8, w: Vectors, rhos: Rhos) -> Commitments
-    ensures { λ r. ⌜ r ≡ commitmentsThree n m (vectorsOf w) rhos ⌝ }
+pub fn commitments_three(d: Domain, n: u8, m: u8, w: Vectors, rhos: Rhos) -> CommitmentsThree
+    ensures { λ r. ⌜ r ≡ commitmentsThree d n m (vectorsOf w) rhos ⌝ }
 {
     let r1 = w.r1;
     let t0 = w.t0;
@@ -34,10 +36,10 @@ pub fn commitments_three(n: u8, m: u8, w: Vectors, rhos: Rhos) -> Commitments
     let rho0 = rhos.rho0;
     let rho1 = rhos.rho1;
     let rho2 = rhos.rho2;
-    Commitments {
-        c0: commit_two(Domain { scheme: 3 }, 0, rho0, r1, n, mask, m),
-        c1: commit_two(Domain { scheme: 3 }, 1, rho1, t0, n, e0, m),
-        c2: commit_two(Domain { scheme: 3 }, 2, rho2, t1, n, e1, m),
+    CommitmentsThree {
+        c0: commit_two(d, 0, rho0, r1, n, mask, m),
+        c1: commit_two(d, 1, rho1, t0, n, e0, m),
+        c2: commit_two(d, 2, rho2, t1, n, e1, m),
     }
 }
 
@@ -79,40 +81,9 @@ pub fn reply_three(w: Vectors, rhos: Rhos, challenge: u8) -> ReplyThree
     }
 }
 
-// The first vector of the first opening.
-fn opened_first(q: u8, n: u8, challenge: u8, x: [u8; 96], y: [u8; 96]) -> [u8; 96]
-    ensures { λ r. ⌜ r ≡ openedFirst q n challenge x y ⌝ }
-{
-    match challenge {
-        0 => sub_vectors(q, n, x, y),
-        _ => x,
-    }
-}
-
-// The second vector of the first opening.
-fn opened_second(
-    system: &[u8],
-    v: [u8; 96],
-    challenge: u8,
-    x: [u8; 96],
-    y: [u8; 96],
-    z: [u8; 96],
-) -> [u8; 96]
-    requires { ⌜ systemRefusal (now system) ≡ 0 ⌝ }
-    ensures { λ r. ⌜ r ≡ openedSecond (mapOf (now (system .entry))) v challenge x y z ⌝ }
-{
-    let q = byte_at(system, 0);
-    let m = byte_at(system, 2);
-    match challenge {
-        0 => sub_vectors(q, m, f(system, x), z),
-        1 => unmask(system, v, x, y, z),
-        _ => add_vectors(q, m, g(system, y, x), z),
-    }
-}
-
-// The numbers of the commitments that a reply opens.
+// The number of the commitment that the first opening of a reply is of, whatever the reply.
 pub fn first_number(challenge: u8) -> u8
-    ensures { λ r. ⌜ r ≡ firstNumber challenge ⌝ }
+    ensures { λ k. ⌜ (b v : List ℕ) (r : ReplyThree·) → k ≡ openingAt (openingsThree b v challenge r) 0 .k ⌝ }
 {
     match challenge {
         0 => 1,
@@ -120,20 +91,16 @@ pub fn first_number(challenge: u8) -> u8
     }
 }
 
-fn second_number(challenge: u8) -> u8
-    ensures { λ r. ⌜ r ≡ secondNumber challenge ⌝ }
-{
-    match challenge {
-        0 => 2,
-        1 => 2,
-        _ => 1,
-    }
-}
-
 // The string of the first opening: of c1 for challenge 0, else of c0.
-pub fn first_opening(system: &[u8], v: [u8; 96], challenge: u8, reply: ReplyThree) -> Text
+pub fn first_opening(
+    system: &[u8],
+    d: Domain,
+    v: [u8; 96],
+    challenge: u8,
+    reply: ReplyThree,
+) -> Text
     requires { ⌜ systemRefusal (now system) ≡ 0 ⌝ }
-    ensures { λ r. ⌜ (r ≡ text (firstString (now (system .entry)) v challenge reply)) × (r .len ≤ 322) ⌝ }
+    ensures { λ t. ⌜ TextOf (stringOf d (openingAt (openingsThree (now (system .entry)) v challenge reply) 0)) 1 t ⌝ }
 {
     let q = byte_at(system, 0);
     let n = byte_at(system, 1);
@@ -142,19 +109,32 @@ pub fn first_opening(system: &[u8], v: [u8; 96], challenge: u8, reply: ReplyThre
     let y = reply.y;
     let z = reply.z;
     let rho = reply.first;
-    let a = opened_first(q, n, challenge, x, y);
-    let b = opened_second(system, v, challenge, x, y, z);
-    let k = first_number(challenge);
-    string_two(Domain { scheme: 3 }, k, rho, a, n, b, m)
+    match challenge {
+        0 => {
+            let t0 = sub_vectors(q, n, x, y);
+            let e0 = sub_vectors(q, m, f(system, x), z);
+            string_two(d, 1, rho, t0, n, e0, m)
+        }
+        1 => string_two(d, 0, rho, x, n, unmask(system, v, x, y, z), m),
+        _ => {
+            let mask = add_vectors(q, m, g(system, y, x), z);
+            string_two(d, 0, rho, x, n, mask, m)
+        }
+    }
 }
 
-// The string of the second opening: of c1 for challenge 2, else of c2.
-pub fn second_opening(n: u8, m: u8, challenge: u8, reply: ReplyThree) -> Text
-    ensures { λ r. ⌜ (r ≡ text (secondString n m challenge reply)) × (r .len ≤ 322) ⌝ }
+// The string of the second opening, whatever v: of c1 for challenge 2, else of c2.
+pub fn second_opening(system: &[u8], d: Domain, challenge: u8, reply: ReplyThree) -> Text
+    ensures { λ t. ⌜ (v : List ℕ) → TextOf (stringOf d (openingAt (openingsThree (now (system .entry)) v challenge reply) 1)) 1 t ⌝ }
 {
+    let n = byte_at(system, 1);
+    let m = byte_at(system, 2);
     let y = reply.y;
     let z = reply.z;
     let rho = reply.second;
-    let k = second_number(challenge);
-    string_two(Domain { scheme: 3 }, k, rho, y, n, z, m)
+    match challenge {
+        0 => string_two(d, 2, rho, y, n, z, m),
+        1 => string_two(d, 2, rho, y, n, z, m),
+        _ => string_two(d, 1, rho, y, n, z, m),
+    }
 }

@@ -15,6 +15,7 @@ use Rattle.field.specs.Vector.{allBelow}
 use Rattle.system.specs.System.{qOf, nOf, mOf, width, systemLength, isSize, areSizes, systemRefusal}
 use Rattle.system.proofs.SystemLayout.{all-below-at, at-all-below, well-formed, not-refused, q-is, n-is, m-is}
 use Rattle.exchange.proofs.ReadBack.{below-append}
+use Rattle.scheme.specs.Scheme.{drawnLength, commitmentCount, commitmentsLength, openedCount, vectorsLength, rhosLength, replyLength}
 use Rattle.simulator.specs.Arguments.{VectorBytes, LentPieces, Simulable}
 use Rattle.simulator.specs.Simulator.{simulateRefusal}
 use Rattle.simulator.proofs.NotRefused.{taken}
@@ -92,7 +93,7 @@ module _ (q n m : ℕ) (lent : List ℕ) (long : length lent ≡ n + n + n + m +
 
 module _ (b v : List ℕ) (unanswered challenge : ℕ) (lent : List ℕ) (commitments reply : ℕ) where
   pub simulate-not-refused : Simulable b v unanswered challenge lent commitments reply → simulateRefusal b v unanswered challenge lent commitments reply ≡ 0
-  unfolding simulateRefusal
+  unfolding simulateRefusal drawnLength commitmentsLength commitmentCount replyLength vectorsLength rhosLength openedCount
   simulate-not-refused k =
       let w = k .system in
       let q = q-is b w in
@@ -110,7 +111,7 @@ module _ (b v : List ℕ) (unanswered challenge : ℕ) (lent : List ℕ) (commit
       (both-zero _ _ (unless-holds _ 4 (le-leb challenge 2 (k .challenge-value))) (unless-holds _ 4 (ap not (ne-eqb unanswered challenge (λ e. k .other (sym e)))))))))
 
   pub simulable : simulateRefusal b v unanswered challenge lent commitments reply ≡ 0 → Simulable b v unanswered challenge lent commitments reply
-  unfolding simulateRefusal
+  unfolding simulateRefusal drawnLength commitmentsLength commitmentCount replyLength vectorsLength rhosLength openedCount
   simulable none =
       let k = taken b v unanswered challenge lent commitments reply none in
       let w = well-formed b (k .good) in
@@ -130,5 +131,5 @@ module _ (b v : List ℕ) (unanswered challenge : ℕ) (lent : List ℕ) (commit
 -- ---- there are right calls: K9, "simulator, Ch* = 0, s' = (1,0)", with Ch = 1 and each ρ zero
 
 pub simulable-K9 : Simulable (7 ∷ 2 ∷ 2 ∷ 1 ∷ 2 ∷ 3 ∷ 1 ∷ 0 ∷ 0 ∷ 1 ∷ 5 ∷ 0 ∷ 4 ∷ []) (5 ∷ 6 ∷ []) 0 1 (1 ∷ 0 ∷ 5 ∷ 1 ∷ 4 ∷ 2 ∷ 2 ∷ 5 ∷ replicate 96 0) 96 70
-unfolding simulateRefusal systemRefusal areSizes isSize systemLength width isField allBelow unless _orElse_
+unfolding simulateRefusal drawnLength commitmentsLength commitmentCount replyLength vectorsLength rhosLength openedCount systemRefusal areSizes isSize systemLength width isField allBelow unless _orElse_
 simulable-K9 = simulable _ _ _ _ _ _ _ refl

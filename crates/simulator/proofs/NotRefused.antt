@@ -9,15 +9,17 @@ use borrow.Author.Tests.{leb-true, eqb-false, not-true}
 use Rattle.refusal.proofs.Refusals.{first-zero, later-zero, test-holds, equal-holds}
 use Rattle.field.specs.Vector.{allBelow}
 use Rattle.system.specs.System.{qOf, nOf, mOf, systemRefusal}
+use Rattle.scheme.specs.declared.Scheme.the-variants.{ThreePass}
+use Rattle.scheme.specs.Scheme.{drawnLength, commitmentsLength, replyLength}
 use Rattle.simulator.specs.Simulator.{simulateRefusal}
 
 pub record Taken (b v : List ℕ) (unanswered challenge : ℕ) (lent : List ℕ) (commitments reply : ℕ) : Type 0 where
   pub good : systemRefusal b ≡ 0
   pub key-length : length v ≡ mOf b
-  pub commitments-room : commitments ≡ 96
-  pub reply-room : reply ≡ nOf b + nOf b + mOf b + 64
+  pub commitments-room : commitments ≡ commitmentsLength ThreePass
+  pub reply-room : reply ≡ replyLength ThreePass (nOf b) (mOf b)
   pub key-elements : allBelow (qOf b) v ≡ true
-  pub lent-elements : allBelow (qOf b) (take (nOf b + nOf b + nOf b + mOf b) lent) ≡ true
+  pub lent-elements : allBelow (qOf b) (take (nOf b + drawnLength ThreePass (nOf b) (mOf b)) lent) ≡ true
   pub unanswered-value : unanswered ≤ 2
   pub challenge-value : challenge ≤ 2
   pub other : challenge ≡ unanswered → ⊥
@@ -37,10 +39,10 @@ taken b v unanswered challenge lent commitments reply none =
     record {
       good = first-zero _ _ none;
       key-length = equal-holds (length v) m 2 tt (first-zero _ _ (first-zero _ _ lengths));
-      commitments-room = equal-holds commitments 96 2 tt (first-zero _ _ (later-zero _ _ lengths));
-      reply-room = equal-holds reply (n + n + m + 64) 2 tt (later-zero _ _ (later-zero _ _ lengths));
+      commitments-room = equal-holds commitments (commitmentsLength ThreePass) 2 tt (first-zero _ _ (later-zero _ _ lengths));
+      reply-room = equal-holds reply (replyLength ThreePass n m) 2 tt (later-zero _ _ (later-zero _ _ lengths));
       key-elements = test-holds (allBelow (qOf b) v) 3 tt (first-zero _ _ elements);
-      lent-elements = test-holds (allBelow (qOf b) (take (n + n + n + m) lent)) 3 tt (later-zero _ _ elements);
+      lent-elements = test-holds (allBelow (qOf b) (take (n + drawnLength ThreePass n m) lent)) 3 tt (later-zero _ _ elements);
       unanswered-value = leb-true unanswered 2 (test-holds (leb unanswered 2) 4 tt (first-zero _ _ challenges));
       challenge-value = leb-true challenge 2 (test-holds (leb challenge 2) 4 tt (first-zero _ _ after-unanswered));
       other = λ e. eqb-false unanswered challenge (not-true (eqb unanswered challenge) (test-holds (not (eqb unanswered challenge)) 4 tt (later-zero _ _ after-unanswered))) (sym e);

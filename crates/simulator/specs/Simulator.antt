@@ -1,4 +1,5 @@
--- Document 01, "Simulator": "commitments and reply in one call: from the system, v, challenges Ch* and Ch and lent s', r0, t0, e0, ρ0..ρ2". `unanswered` is Ch*.
+-- Document 01, "Simulator": "commitments and reply in one call: from the system, v, challenges Ch* and Ch and lent s', r0, t0, e0, ρ0..ρ2". `unanswered` is Ch*, the
+-- challenge that is not answered.
 use Prim.Native.Nat.{ℕ, _+_}
 use mathlib.Core.Bool.{not}
 use mathlib.Core.List.{List}
@@ -7,6 +8,9 @@ use lib.ListN.{length, take, drop}
 use Rattle.refusal.specs.Refusal.{unless, _orElse_}
 use Rattle.field.specs.Vector.{asVector, slotV, allBelow}
 use Rattle.system.specs.System.{qOf, nOf, mOf, systemRefusal}
+use Rattle.scheme.specs.declared.Scheme.the-variants.{ThreePass}
+use Rattle.scheme.specs.Scheme.{drawnLength, commitmentsLength, replyLength}
+use Rattle.commitment.specs.declared.Domain.{Domain}
 use Rattle.protocol.specs.Protocols.{Vectors, simulated}
 use Rattle.protocol.specs.Rounds.{mapOf}
 use Rattle.round.specs.ThreePass.{commitmentsThree, replyThree}
@@ -19,9 +23,9 @@ simulateRefusal b v unanswered challenge lent commitments reply =
     let n = nOf b in
     let m = mOf b in
     systemRefusal b orElse
-    ((unless (eqb (length v) m) 2 orElse unless (eqb (length lent) (n + n + n + m + 96)) 2) orElse
-    (unless (eqb commitments 96) 2 orElse unless (eqb reply (n + n + m + 64)) 2)) orElse
-    (unless (allBelow (qOf b) v) 3 orElse unless (allBelow (qOf b) (take (n + n + n + m) lent)) 3) orElse
+    ((unless (eqb (length v) m) 2 orElse unless (eqb (length lent) (n + drawnLength ThreePass n m + commitmentsLength ThreePass)) 2) orElse
+    (unless (eqb commitments (commitmentsLength ThreePass)) 2 orElse unless (eqb reply (replyLength ThreePass n m)) 2)) orElse
+    (unless (allBelow (qOf b) v) 3 orElse unless (allBelow (qOf b) (take (n + drawnLength ThreePass n m) lent)) 3) orElse
     (unless (leb unanswered 2) 4 orElse unless (leb challenge 2) 4 orElse unless (not (eqb unanswered challenge)) 4)
 
 -- "lent s', r0, t0, e0, ρ0..ρ2": behind s' what a card is lent
@@ -36,9 +40,15 @@ vectorsFrom b unanswered v lent l = simulated (mapOf b) unanswered (asVector v) 
 unfoldable pub vectorsIn : List ℕ → ℕ → List ℕ → List ℕ → Vectors (List ℕ) (List ℕ)
 vectorsIn b unanswered v lent = vectorsFrom b unanswered v lent (lentBehind (nOf b) (mOf b) lent)
 
+-- "One three-pass round without s"
+unfoldable pub simulatorDomain : Domain
+simulatorDomain = record { scheme = ThreePass }
+
 -- "All else is formed as on the card."
 unfoldable pub simulatedCommitments : List ℕ → List ℕ → ℕ → List ℕ → List ℕ
-simulatedCommitments b v unanswered lent = threeCommitments (commitmentsThree (nOf b) (mOf b) (vectorsIn b unanswered v lent) (lentBehind (nOf b) (mOf b) lent .rhos))
+simulatedCommitments b v unanswered lent =
+    threeCommitments (commitmentsThree simulatorDomain (nOf b) (mOf b) (vectorsIn b unanswered v lent) (lentBehind (nOf b) (mOf b) lent .rhos))
 
 unfoldable pub simulatedReply : List ℕ → List ℕ → ℕ → ℕ → List ℕ → List ℕ
-simulatedReply b v unanswered challenge lent = replyThreeBytes (nOf b) (mOf b) (replyThree (vectorsIn b unanswered v lent) (lentBehind (nOf b) (mOf b) lent .rhos) challenge)
+simulatedReply b v unanswered challenge lent =
+    replyThreeBytes (nOf b) (mOf b) (replyThree (vectorsIn b unanswered v lent) (lentBehind (nOf b) (mOf b) lent .rhos) challenge)

@@ -3,10 +3,11 @@
 // It takes any bytes and answers 0, or the number of the refusal, and then both outputs are what they were: the system's
 // own; 2 for a v, lent slice or output of another length; 3 for an element of v or of the lent vectors; 4 for a challenge
 // outside 0 to 2, or for Ch* itself.
+use commitment::Domain;
 use exchange::Lent;
 use exchange::read_lent;
-use exchange::write_commitments;
 use exchange::write_reply_three;
+use exchange::write_three_commitments;
 use field::all_below;
 use field::from_slice;
 use field::slot;
@@ -16,6 +17,10 @@ use round::Vectors;
 use round::commitments_three;
 use round::reply_three;
 use round::simulated;
+use scheme::Scheme;
+use scheme::commitments_length;
+use scheme::drawn_length;
+use scheme::reply_length;
 use slices::byte_at;
 use slices::part;
 use system::check;
@@ -24,7 +29,7 @@ ghost use lib.ListN.{length};
 ghost use Rattle.refusal.specs.Refusal.{kept};
 ghost use Rattle.system.specs.System.{systemRefusal};
 ghost use Rattle.round.specs.Pieces.{vectorsOf};
-ghost use Rattle.simulator.specs.Simulator.{simulateRefusal, lentBehind, vectorsFrom, simulatedCommitments, simulatedReply};
+ghost use Rattle.simulator.specs.Simulator.{simulateRefusal, lentBehind, vectorsFrom, simulatorDomain, simulatedCommitments, simulatedReply};
 
 // The refusal of a call, its outputs' lengths among its arguments.
 fn simulate_refusal<'a>(
@@ -39,19 +44,21 @@ fn simulate_refusal<'a>(
     ensures { λ r. ⌜ r ≡ simulateRefusal (now (system .entry)) (now (v .entry)) unanswered challenge (now (lent .entry)) «commitments_len» «reply_len» ⌝ }
 {
     let q = byte_at(system, 0);
-    let n = byte_at(system, 1) as usize;
-    let m = byte_at(system, 2) as usize;
+    let n = byte_at(system, 1);
+    let m = byte_at(system, 2);
+    let drawn = n as usize + drawn_length(Scheme::ThreePass, n, m);
+    let rhos = commitments_length(Scheme::ThreePass);
     let inputs = first(
-        unless(v.len() == m, 2),
-        unless(lent.len() == n + n + n + m + 96, 2),
+        unless(v.len() == m as usize, 2),
+        unless(lent.len() == drawn + rhos, 2),
     );
     let outputs = first(
-        unless(commitments_len == 96, 2),
-        unless(reply_len == n + n + m + 64, 2),
+        unless(commitments_len == rhos, 2),
+        unless(reply_len == reply_length(Scheme::ThreePass, n, m), 2),
     );
     let elements = first(
         unless(all_below(q, v), 3),
-        unless(all_below(q, part(lent, 0, n + n + n + m)), 3),
+        unless(all_below(q, part(lent, 0, drawn)), 3),
     );
     let challenges = first(
         unless(unanswered <= 2, 4),
@@ -70,6 +77,15 @@ fn lent_behind(lent: &[u8], n: u8, m: u8) -> Lent
     read_lent(part(lent, n as usize, lent.len()), n, m)
 }
 
+// The domain of what it commits to.
+fn simulator_domain() -> Domain
+    ensures { λ r. ⌜ r ≡ simulatorDomain ⌝ }
+{
+    Domain {
+        scheme: Scheme::ThreePass,
+    }
+}
+
 // The simulator's vectors, from s' and what is lent behind it.
 fn lent_vectors<'a>(system: &'a [u8], unanswered: u8, v: &'a [u8], lent: &'a [u8], l: Lent) -> Vectors
     requires { ⌜ systemRefusal (now system) ≡ 0 ⌝ }
@@ -82,7 +98,8 @@ fn lent_vectors<'a>(system: &'a [u8], unanswered: u8, v: &'a [u8], lent: &'a [u8
     simulated(system, unanswered, from_slice(v), s, r0, t0, e0)
 }
 
-// Writes the three commitments and the reply to `challenge`; `unanswered` is Ch*, the challenge to which there is no reply.
+// Writes the three commitments and the reply to `challenge`; `unanswered` is Ch*, the challenge that is not
+// answered.
 pub fn simulate<'a>(
     system: &'a [u8],
     v: &'a [u8],
@@ -113,7 +130,8 @@ pub fn simulate<'a>(
     let l = lent_behind(lent, n, m);
     let rhos = l.rhos;
     let w = lent_vectors(system, unanswered, v, lent, l);
-    write_commitments(commitments_three(n, m, w, rhos), commitments);
+    let d = simulator_domain();
+    write_three_commitments(commitments_three(d, n, m, w, rhos), commitments);
     write_reply_three(reply_three(w, rhos, challenge), n, m, reply);
     0
 }

@@ -5,8 +5,8 @@ use mathlib.Core.List.{List, _++_}
 use native.Mathlib.Omega.{arith}
 use lib.ListN.{length, take, length-append}
 use lib.Seq.{length-take-le}
-use Rattle.commitment.specs.Held.{held}
-use Rattle.commitment.proofs.HeldStrings.{held-put, same-text, text-bytes, text-len, take-vector}
+use Rattle.commitment.specs.Texts.{zeroBeyond}
+use Rattle.commitment.proofs.Texts.{text-put, same-text, text-bytes, text-len, take-vector}
 use borrow.Author.Needs.{needs}
 use Rattle.commitment.proofs.append.Statement.{statement}
 use Rattle.commitment.proofs.append.Tie as tie
@@ -34,9 +34,13 @@ append-spec =
     let at = c .before .before in
     let args = at .before .before .args in
     record {
-      holds = λ l e.
-          same-text _ (l ++ take (args .n) (args .t2)) _
-          (held-put l (take (at .clamped .result) (args .t2)) (args .t .bytes) _ (args .t .len) (text-bytes _ l e) (sym (text-len _ l e)) (rw (part-length at) (omega arith)) (c .put .ensures) ∙ ap (λ (s : List ℕ). held (l ++ s)) (part-is at))
-          (simp (length-append, ← part-is at, part-length at, ← text-len _ l e));
-      longer = omega arith;
+      holds = λ l room h.
+          let e = h .is in
+          record {
+            is =
+                same-text _ (l ++ take (args .n) (args .t2)) _
+                (text-put l (take (at .clamped .result) (args .t2)) (args .t .bytes) _ (args .t .len) (text-bytes _ l e) (sym (text-len _ l e)) (rw (part-length at) (omega arith)) (c .put .ensures) ∙ ap (λ (s : List ℕ). zeroBeyond (l ++ s)) (part-is at))
+                (simp (length-append, ← part-is at, part-length at, ← text-len _ l e));
+            fits = omega (arith, h .fits);
+          };
     }))

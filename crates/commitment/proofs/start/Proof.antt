@@ -1,9 +1,12 @@
 -- ρ is put behind the scheme and the number. Assumes nothing.
-use mathlib.Core.Path.{_≡_, refl}
+use mathlib.Core.Path.{_≡_, refl, sym, ap, _∙_}
+use mathlib.Core.List.{List, [], _∷_}
+use Prim.Native.Nat.{ℕ}
 use native.Mathlib.Omega.{arith}
 use lib.ListN.{length}
 use Rattle.commitment.specs.Commitment.{prefix}
-use Rattle.commitment.proofs.HeldStrings.{held-start, held-put, same-text}
+use Rattle.commitment.specs.Texts.{zeroBeyond}
+use Rattle.commitment.proofs.Texts.{text-start, text-put, same-text}
 use borrow.Author.Needs.{needs}
 use Rattle.commitment.proofs.start.Statement.{statement}
 use Rattle.commitment.proofs.start.Tie as tie
@@ -13,11 +16,17 @@ unfolding prefix
 start-spec =
     tie.close
     (tie.spec
+    (λ c κs. search needs)
     (λ c. search needs)
     (λ c. search needs)
     (λ c. search needs)
     (λ c κs. search needs)
     (λ c.
-    let args = c .before .before .args in
+    let args = c .before .before .before .args in
     let long : length (args .t3) ≡ 32 = search needs in
-    (same-text _ _ 34 (held-put (prefix (args .d) (args .k)) (args .t3) _ _ 2 (held-start _ _) refl (omega arith) (c .put .ensures)) (omega arith), refl)))
+    let byte = c .before .before .byte-of .ensures in
+    let two = text-start _ _ ∙ ap (λ (x : ℕ). zeroBeyond (x ∷ args .k ∷ [])) byte in
+    record {
+      is = same-text _ _ 34 (text-put (prefix (args .d) (args .k)) (args .t3) _ _ 2 two refl (omega arith) (c .put .ensures)) (omega arith);
+      fits = omega arith;
+    }))

@@ -1,6 +1,6 @@
--- By cases on the scheme. Assumes nothing.
-use borrow.Author.Tests.{ne-eqb}
+-- Each arm knows its variant. Assumes nothing.
 use Rattle.scheme.specs.Scheme.{challenges}
+use borrow.Author.Needs.{needs}
 use Rattle.scheme.proofs.challenges.Statement.{statement}
 use Rattle.scheme.proofs.challenges.Tie as tie
 
@@ -9,5 +9,7 @@ unfolding challenges
 challenges-spec =
     tie.close
     (tie.spec
-    (λ c. rw (c .if1 .taken))
-    (λ c. rw (ne-eqb _ 3 (c .if1 .left))))
+    (λ c. search needs)
+    (λ c. search needs)
+    (λ c. rw (c .enum-told .given .1))
+    (λ c. rw (c .enum-told2 .given .1)))

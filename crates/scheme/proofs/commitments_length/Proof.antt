@@ -1,7 +1,7 @@
--- By cases on the scheme. Assumes nothing.
+-- 32 bytes each. Assumes nothing.
 use native.Mathlib.Omega.{arith}
-use borrow.Author.Tests.{ne-eqb}
 use Rattle.scheme.specs.Scheme.{commitmentsLength}
+use borrow.Author.Needs.{needs}
 use Rattle.scheme.proofs.commitments_length.Statement.{statement}
 use Rattle.scheme.proofs.commitments_length.Tie as tie
 
@@ -10,5 +10,7 @@ unfolding commitmentsLength
 commitments-length-spec =
     tie.close
     (tie.spec
-    (λ c. (simp (c .if1 .taken), omega arith))
-    (λ c. (simp (ne-eqb _ 3 (c .if1 .left)), omega arith)))
+    (λ c κs. search needs)
+    (λ c. search needs)
+    (λ c. search needs)
+    (λ c. (simp (c .commitment-count .ensures .0), omega (arith, c .commitment-count .ensures))))

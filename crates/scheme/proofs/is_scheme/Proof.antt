@@ -1,6 +1,6 @@
--- Each arm knows the scheme, and the last that it is neither. Assumes nothing.
-use borrow.Author.Tests.{ne-eqb}
+-- The byte of the scheme that it decodes to. Assumes nothing.
 use Rattle.scheme.specs.Scheme.{isScheme}
+use borrow.Author.Needs.{needs}
 use Rattle.scheme.proofs.is_scheme.Statement.{statement}
 use Rattle.scheme.proofs.is_scheme.Tie as tie
 
@@ -9,6 +9,6 @@ unfolding isScheme
 is-scheme-spec =
     tie.close
     (tie.spec
-    (λ c. rw (c .match .keys1))
-    (λ c. rw (c .match .keys2))
-    (λ c. rw (ne-eqb _ 3 (c .match .rest .0 .1), ne-eqb _ 5 (c .match .rest .1))))
+    (λ c κs. search needs)
+    (λ c κs. search needs)
+    (λ c. simp (c .byte-of .ensures, c .before .scheme-of .ensures)))

@@ -1,6 +1,5 @@
--- By cases on the scheme. Assumes nothing.
+-- Each arm knows its variant. Assumes nothing.
 use native.Mathlib.Omega.{arith}
-use borrow.Author.Tests.{ne-eqb}
 use Rattle.scheme.specs.Scheme.{vectorsLength}
 use borrow.Author.Needs.{needs}
 use Rattle.scheme.proofs.vectors_length.Statement.{statement}
@@ -13,5 +12,7 @@ vectors-length-spec =
     (tie.spec
     (λ c. search needs)
     (λ c. search needs)
-    (λ c. (simp (c .if1 .taken), omega arith))
-    (λ c. (simp (ne-eqb _ 3 (c .if1 .left)), omega arith)))
+    (λ c. search needs)
+    (λ c. search needs)
+    (λ c. (rw (c .enum-told .given .1), omega arith))
+    (λ c. (rw (c .enum-told2 .given .1), omega arith)))

@@ -2,13 +2,14 @@
 use native.Mathlib.Omega.{arith}
 use lib.ListN.{take}
 use Rattle.slices.proofs.Parts.{placed-both}
+use Rattle.scheme.specs.Scheme.{rhosLength, openedCount}
 use Rattle.exchange.specs.Messages.{replyFiveBytes}
 use borrow.Author.Needs.{needs}
 use Rattle.exchange.proofs.write.write_reply_five.Statement.{statement}
 use Rattle.exchange.proofs.write.write_reply_five.Tie as tie
 
 pub write-reply-five-spec : {M : Type 1} → statement M
-unfolding replyFiveBytes
+unfolding replyFiveBytes rhosLength openedCount
 write-reply-five-spec =
     tie.close
     (tie.spec

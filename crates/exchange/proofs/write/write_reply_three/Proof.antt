@@ -5,13 +5,14 @@ use mathlib.Core.List.{[]}
 use native.Mathlib.Omega.{arith}
 use lib.ListN.{take}
 use Rattle.slices.proofs.Parts.{placed-next, placed-all}
+use Rattle.scheme.specs.Scheme.{replyLength, vectorsLength, rhosLength, openedCount}
 use Rattle.exchange.specs.Messages.{replyThreeBytes}
 use borrow.Author.Needs.{needs}
 use Rattle.exchange.proofs.write.write_reply_three.Statement.{statement}
 use Rattle.exchange.proofs.write.write_reply_three.Tie as tie
 
 pub write-reply-three-spec : {M : Type 1} → statement M
-unfolding replyThreeBytes
+unfolding replyThreeBytes replyLength vectorsLength rhosLength openedCount
 write-reply-three-spec =
     tie.close
     (tie.spec

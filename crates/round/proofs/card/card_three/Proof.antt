@@ -19,4 +19,4 @@ card-three-spec =
     (λ c κs. search needs)
     (λ c κs. search needs)
     (λ c κs. search needs)
-    (λ c. simp (c .add-vectors .ensures, c .before .g .ensures, c .before .before .sub-vectors3 .ensures, c .before .before .before .f .ensures, c .before .before .before .before .sub-vectors2 .ensures, c .before .before .before .before .before .sub-vectors .ensures, c .before .before .before .before .before .before .byte-at3 .ensures, c .before .before .before .before .before .before .before .byte-at2 .ensures, c .before .before .before .before .before .before .before .before .byte-at .ensures)))
+    (λ c. simp (c .add-vectors .ensures, c .before .g .ensures, c .before .before .sub-vectors .ensures, c .before .before .before .f .ensures, c .before .before .before .before .t1-of .ensures, c .before .before .before .before .before .r1-of .ensures, c .before .before .before .before .before .before .byte-at3 .ensures, c .before .before .before .before .before .before .before .byte-at2 .ensures, c .before .before .before .before .before .before .before .before .byte-at .ensures)))

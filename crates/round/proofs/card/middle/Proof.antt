@@ -1,4 +1,5 @@
 -- The callees' answers, put together. Assumes nothing.
+use Rattle.round.specs.FivePass.{middleFive}
 use Rattle.protocol.specs.Protocols.{t1By, e1By}
 use Rattle.protocol.specs.Rounds.{mapOf}
 use borrow.Author.Needs.{needs}
@@ -6,7 +7,7 @@ use Rattle.round.proofs.card.middle.Statement.{statement}
 use Rattle.round.proofs.card.middle.Tie as tie
 
 pub middle-spec : {M : Type 1} → statement M
-unfolding t1By e1By mapOf
+unfolding middleFive t1By e1By mapOf
 middle-spec =
     tie.close
     (tie.spec
@@ -18,4 +19,4 @@ middle-spec =
     (λ c κs. search needs)
     (λ c κs. search needs)
     (λ c κs. search needs)
-    (λ c. (simp (c .sub-vectors2 .ensures, c .before .mul-vector2 .ensures, c .before .before .f .ensures, c .before .before .before .sub-vectors .ensures, c .before .before .before .before .mul-vector .ensures, c .before .before .before .before .before .byte-at3 .ensures, c .before .before .before .before .before .before .byte-at2 .ensures, c .before .before .before .before .before .before .before .byte-at .ensures), simp (c .sub-vectors2 .ensures, c .before .mul-vector2 .ensures, c .before .before .f .ensures, c .before .before .before .sub-vectors .ensures, c .before .before .before .before .mul-vector .ensures, c .before .before .before .before .before .byte-at3 .ensures, c .before .before .before .before .before .before .byte-at2 .ensures, c .before .before .before .before .before .before .before .byte-at .ensures))))
+    (λ c. simp (c .sub-vectors2 .ensures, c .before .mul-vector2 .ensures, c .before .before .f .ensures, c .before .before .before .sub-vectors .ensures, c .before .before .before .before .mul-vector .ensures, c .before .before .before .before .before .byte-at3 .ensures, c .before .before .before .before .before .before .byte-at2 .ensures, c .before .before .before .before .before .before .before .byte-at .ensures)))

@@ -16,4 +16,4 @@ simulated-spec =
     (λ c κs. search needs)
     (λ c κs. search needs)
     (λ c κs. search needs)
-    (λ c. simp (c .simulated-mask .ensures, c .before .simulated-e1 .ensures, c .before .before .sub-vectors2 .ensures, c .before .before .before .sub-vectors .ensures, c .before .before .before .before .byte-at2 .ensures, c .before .before .before .before .before .byte-at .ensures)))
+    (λ c. simp (c .simulated-mask .ensures, c .before .simulated-e1 .ensures, c .before .before .t1-of .ensures, c .before .before .before .r1-of .ensures, c .before .before .before .before .byte-at2 .ensures, c .before .before .before .before .before .byte-at .ensures)))

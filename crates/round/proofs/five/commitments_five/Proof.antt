@@ -19,4 +19,4 @@ commitments-five-spec =
     (λ c κs. search needs)
     (λ c κs. search needs)
     (λ c κs. search needs)
-    (λ c. simp (c .commit-two .ensures, c .before .commit .ensures, c .before .before .add-vectors .ensures, c .before .before .before .g .ensures, c .before .before .before .before .sub-vectors .ensures, c .before .before .before .before .before .before .before .byte-at3 .ensures, c .before .before .before .before .before .before .before .before .byte-at2 .ensures, c .before .before .before .before .before .before .before .before .before .byte-at .ensures)))
+    (λ c. simp (c .commit-two .ensures, c .before .commit-three .ensures, c .before .before .add-vectors .ensures, c .before .before .before .g .ensures, c .before .before .before .before .r1-of .ensures, c .before .before .before .before .before .before .before .byte-at3 .ensures, c .before .before .before .before .before .before .before .before .byte-at2 .ensures, c .before .before .before .before .before .before .before .before .before .byte-at .ensures)))

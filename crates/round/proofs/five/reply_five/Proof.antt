@@ -12,4 +12,4 @@ reply-five-spec =
     (tie.spec
     (λ c κs. search needs)
     (λ c. simp (c .match .keys1))
-    (λ c. simp (ne-eqb _ 0 (c .before .match .rest .1), c .sub-vectors .ensures)))
+    (λ c. simp (ne-eqb _ 0 (c .before .match .rest .1), c .r1-of .ensures)))

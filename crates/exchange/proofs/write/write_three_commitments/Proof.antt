@@ -3,14 +3,15 @@ use mathlib.Core.Path.{refl}
 use mathlib.Core.List.{[]}
 use native.Mathlib.Omega.{arith}
 use Rattle.slices.proofs.Parts.{placed-next, placed-all}
+use Rattle.scheme.specs.Scheme.{commitmentsLength, commitmentCount}
 use Rattle.exchange.specs.Messages.{threeCommitments}
 use borrow.Author.Needs.{needs}
-use Rattle.exchange.proofs.write.write_commitments.Statement.{statement}
-use Rattle.exchange.proofs.write.write_commitments.Tie as tie
+use Rattle.exchange.proofs.write.write_three_commitments.Statement.{statement}
+use Rattle.exchange.proofs.write.write_three_commitments.Tie as tie
 
-pub write-commitments-spec : {M : Type 1} → statement M
-unfolding threeCommitments
-write-commitments-spec =
+pub write-three-commitments-spec : {M : Type 1} → statement M
+unfolding threeCommitments commitmentsLength commitmentCount
+write-three-commitments-spec =
     tie.close
     (tie.spec
     (λ c κs. search needs)

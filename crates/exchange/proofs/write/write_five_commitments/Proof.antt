@@ -1,14 +1,15 @@
 -- c0, then c1. Assumes nothing.
 use native.Mathlib.Omega.{arith}
 use Rattle.slices.proofs.Parts.{placed-both}
+use Rattle.scheme.specs.Scheme.{commitmentsLength, commitmentCount}
 use Rattle.exchange.specs.Messages.{fiveCommitments}
 use borrow.Author.Needs.{needs}
-use Rattle.exchange.proofs.write.write_two_commitments.Statement.{statement}
-use Rattle.exchange.proofs.write.write_two_commitments.Tie as tie
+use Rattle.exchange.proofs.write.write_five_commitments.Statement.{statement}
+use Rattle.exchange.proofs.write.write_five_commitments.Tie as tie
 
-pub write-two-commitments-spec : {M : Type 1} → statement M
-unfolding fiveCommitments
-write-two-commitments-spec =
+pub write-five-commitments-spec : {M : Type 1} → statement M
+unfolding fiveCommitments commitmentsLength commitmentCount
+write-five-commitments-spec =
     tie.close
     (tie.spec
     (λ c κs. search needs)

@@ -1,0 +1,2 @@
+-- What schemes above use of a scheme and its byte.
+pub mod Bytes
