@@ -15,7 +15,8 @@ use Rattle.round.specs.declared.pieces.Middle.{Middle}
 use Rattle.round.specs.declared.pieces.ReplyThree.{ReplyThree}
 use Rattle.round.specs.declared.pieces.ReplyFive.{ReplyFive}
 use Rattle.exchange.specs.declared.read.Lent.{Lent}
-use Rattle.round.specs.Openings.{Opening, bytesAt, allOpen}
+use Rattle.round.specs.Openings.{Opening, allOpen}
+unfoldable pub use Rattle.round.specs.Openings.{bytesAt}
 use Rattle.round.specs.ThreePass.{openingsThree}
 use Rattle.round.specs.FivePass.{openingsFive}
 

@@ -83,7 +83,7 @@ pub fn reply_three(w: Vectors, rhos: Rhos, challenge: u8) -> ReplyThree
 
 // The number of the commitment that the first opening of a reply is of, whatever the reply.
 pub fn first_number(challenge: u8) -> u8
-    ensures { λ k. ⌜ (b v : List ℕ) (r : ReplyThree·) → k ≡ openingAt (openingsThree b v challenge r) 0 .k ⌝ }
+    ensures { λ k. ⌜ ((b v : List ℕ) (r : ReplyThree·) → k ≡ openingAt (openingsThree b v challenge r) 0 .k) ⌝ }
 {
     match challenge {
         0 => 1,
@@ -125,7 +125,7 @@ pub fn first_opening(
 
 // The string of the second opening, whatever v: of c1 for challenge 2, else of c2.
 pub fn second_opening(system: &[u8], d: Domain, challenge: u8, reply: ReplyThree) -> Text
-    ensures { λ t. ⌜ (v : List ℕ) → TextOf (stringOf d (openingAt (openingsThree (now (system .entry)) v challenge reply) 1)) 1 t ⌝ }
+    ensures { λ t. ⌜ ((v : List ℕ) → TextOf (stringOf d (openingAt (openingsThree (now (system .entry)) v challenge reply) 1)) 1 t) ⌝ }
 {
     let n = byte_at(system, 1);
     let m = byte_at(system, 2);
