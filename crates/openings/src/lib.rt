@@ -9,6 +9,7 @@ use exchange::read_reply_five;
 use exchange::read_reply_three;
 use field::add_vectors;
 use field::slot;
+use record::header_of;
 use round::ReplyThree;
 use round::first_number;
 use round::first_opening;
@@ -24,14 +25,12 @@ use transcript::round_challenge;
 use transcript::round_reply;
 use transcript::round_turn;
 ghost use mathlib.Core.Path.{_≡_};
-ghost use Rattle.slices.specs.Slices.{_!_};
-ghost use Rattle.system.specs.System.{nOf, mOf, systemRefusal};
+ghost use Rattle.system.specs.System.{systemRefusal};
+ghost use Rattle.scheme.specs.declared.Scheme.the-variants.{ThreePass, FivePass};
 ghost use Rattle.commitment.specs.Texts.{content, TextOf};
 ghost use Rattle.round.specs.Openings.{stringOf, openingOf};
 ghost use Rattle.round.specs.ThreePass.{openingsThree};
-ghost use Rattle.round.specs.FivePass.{openingsFive};
-ghost use Rattle.exchange.specs.Messages.{middleIn, replyFiveIn};
-ghost use Rattle.transcript.specs.Transcript.{domainIn, keyVector, roundTurn, roundChallenge, roundReply};
+ghost use Rattle.record_form.specs.Record.{headerIn};
 ghost use Rattle.openings.specs.Openings.{openingIn, sameOpenings, replyVector, secretOf};
 
 // Three passes: the string with which a reply opens commitment k.
@@ -53,10 +52,27 @@ fn opening_three(
     }
 }
 
-// Five passes: the string with which a round opens the one commitment that its challenge opens.
+// Three passes: the string with which a round of a record opens commitment k.
+fn opening_three_in<'a>(system: &'a [u8], bytes: &'a [u8], r: u8, k: u8) -> Text
+    requires { ⌜ (systemRefusal (now system) ≡ 0) × (headerIn (now bytes) .scheme ≡ ThreePass) ⌝ }
+    ensures { λ t. ⌜ TextOf (openingIn (now (system .entry)) (now (bytes .entry)) r k) 0 t ⌝ }
+{
+    let n = byte_at(system, 1);
+    let m = byte_at(system, 2);
+    opening_three(
+        system,
+        domain_in(bytes),
+        key_vector(bytes),
+        round_challenge(bytes, r),
+        read_reply_three(round_reply(bytes, r), n, m),
+        k,
+    )
+}
+
+// Five passes: a round opens one commitment, by its challenge.
 fn opening_five_in<'a>(system: &'a [u8], bytes: &'a [u8], r: u8, k: u8) -> Text
-    requires { ⌜ systemRefusal (now system) ≡ 0 ⌝ }
-    ensures { λ t. ⌜ TextOf (stringOf (domainIn (now (bytes .entry))) (openingOf k (openingsFive (now (system .entry)) (roundTurn (now (bytes .entry)) r ! 0) (keyVector (now (bytes .entry))) (middleIn (nOf (now (system .entry))) (mOf (now (system .entry))) (roundTurn (now (bytes .entry)) r)) (roundChallenge (now (bytes .entry)) r) (replyFiveIn (nOf (now (system .entry))) (roundReply (now (bytes .entry)) r))))) 0 t ⌝ }
+    requires { ⌜ (systemRefusal (now system) ≡ 0) × (headerIn (now bytes) .scheme ≡ FivePass) ⌝ }
+    ensures { λ t. ⌜ TextOf (openingIn (now (system .entry)) (now (bytes .entry)) r k) 0 t ⌝ }
 {
     let n = byte_at(system, 1);
     let m = byte_at(system, 2);
@@ -77,16 +93,10 @@ pub fn opening<'a>(system: &'a [u8], bytes: &'a [u8], r: u8, k: u8) -> Text
     requires { ⌜ systemRefusal (now system) ≡ 0 ⌝ }
     ensures { λ t. ⌜ TextOf (openingIn (now (system .entry)) (now (bytes .entry)) r k) 0 t ⌝ }
 {
-    let n = byte_at(system, 1);
-    let m = byte_at(system, 2);
-    let d = domain_in(bytes);
-    let scheme = d.scheme;
+    let h = header_of(bytes);
+    let scheme = h.scheme;
     match scheme {
-        Scheme::ThreePass => {
-            let reply = read_reply_three(round_reply(bytes, r), n, m);
-            let challenge = round_challenge(bytes, r);
-            opening_three(system, d, key_vector(bytes), challenge, reply, k)
-        }
+        Scheme::ThreePass => opening_three_in(system, bytes, r, k),
         Scheme::FivePass => opening_five_in(system, bytes, r, k),
     }
 }
