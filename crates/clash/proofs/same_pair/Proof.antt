@@ -1,28 +1,30 @@
+-- The strings are what is held, so that their vectors are compared. Assumes nothing.
+use mathlib.Core.Path.{_≡_, ap, ap₂, _∙_}
+use mathlib.Core.Bool.{Bool}
+use mathlib.Core.List.{List}
+use Prim.Native.Nat.{ℕ}
+use Rattle.commitment.specs.declared.Domain.{Domain}
+use Rattle.commitment.specs.Texts.{content}
+use Rattle.commitment.proofs.Texts.{content-is}
+use Rattle.openings.specs.Openings.{sameOpenings}
+use Rattle.clash.specs.declared.Pair.{Pair}
+use Rattle.clash.specs.Clash.{PairOf, samePair}
 use borrow.Author.Needs.{needs}
 use Rattle.clash.proofs.same_pair.Statement.{statement}
 use Rattle.clash.proofs.same_pair.Tie as tie
-use Rattle.clash.proofs.same_pair.Reads as reads
-use Rattle.clash.proofs.same_pair.Lts as lts
-use Rattle.clash.proofs.opened_pair.Reads as opened-pair-reads
-use Rattle.openings.proofs.same_openings.Reads as same-openings-reads
-use Rattle.transcript.proofs.domain_in.Reads as domain-in-reads
 
--- src/lib.rt:113:9
-opened-pair-requires : tie.Need-opened-pair-requires
-opened-pair-requires c κs = search needs
-
--- src/lib.rt:116:19
-domain-in-requires : tie.Need-domain-in-requires
-domain-in-requires c κs = search needs
-
--- src/lib.rt:116:5
-same-openings-requires : tie.Need-same-openings-requires
-same-openings-requires c κs = search needs
-
--- src/lib.rt:100:1
-returns : tie.Need-returns
-returns c = ?
+tested : (p : Pair) (x y : List ℕ) (d e : Domain) (t : Bool) → PairOf p x y → d ≡ e → t ≡ sameOpenings d (content (p .left)) (content (p .right)) →
+    t ≡ sameOpenings e x y
+tested p x y d e t k domain is =
+    is ∙ ap₂ (sameOpenings d) (content-is x 0 (p .left) (k .left-text)) (content-is y 0 (p .right) (k .right-text)) ∙ ap (λ (f : Domain). sameOpenings f x y) domain
 
 pub same-pair-spec : {M : Type 1} → statement M
+unfolding samePair
 same-pair-spec =
-    tie.close (tie.spec opened-pair-requires domain-in-requires same-openings-requires returns)
+    tie.close
+    (tie.spec
+    (λ c κs. search needs)
+    (λ c κs. search needs)
+    (λ c κs. search needs)
+    (λ c. 
+    tested _ _ _ _ _ _ (c .before .before .before .before .opened-pair .ensures) (c .before .domain-in .ensures) (c .same-openings .ensures)))
