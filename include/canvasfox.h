@@ -37,7 +37,7 @@ extern "C" {
 #define CANVASFOX_VALUE 1       /* q, n, m, N or the scheme is outside its values */
 #define CANVASFOX_LENGTH 2      /* a slice's length is wrong */
 #define CANVASFOX_ELEMENT 3     /* an element is not below q */
-#define CANVASFOX_CHALLENGE 4   /* a challenge is outside its values, or the one predicted */
+#define CANVASFOX_CHALLENGE 4   /* a challenge is outside its values, or is Ch*, the one not answered */
 #define CANVASFOX_RECORD 6      /* a record's size, edition, table or total length is wrong */
 #define CANVASFOX_MISMATCH 7    /* the system's q, n, m are not the record's, or audited records differ */
 #define CANVASFOX_REJECTED 8    /* a round of an audited record is rejected */
@@ -75,14 +75,14 @@ uint8_t canvasfox_polar(const uint8_t *system, size_t system_length,
                         const uint8_t *y, size_t y_length,
                         uint8_t *out, size_t out_length);
 
-/* One three-pass round without the secret. `predicted` is Ch*, the challenge that there is no reply to, and
+/* One three-pass round without the secret. `unanswered` is Ch*, the challenge that is not answered, and
  * `challenge` the one replied to. v has m bytes; lent has 3n + m + 96: s', r0, t0, e0 and three times 32;
  * commitments has 96, and reply 2n + m + 64.
  * The system's refusals. 2: the length of v, lent, commitments or reply. 3: an element of v or of the lent
- * vectors. 4: predicted or challenge is above 2, or they are equal. */
+ * vectors. 4: unanswered or challenge is above 2, or they are equal. */
 uint8_t canvasfox_simulate(const uint8_t *system, size_t system_length,
                            const uint8_t *v, size_t v_length,
-                           uint8_t predicted, uint8_t challenge,
+                           uint8_t unanswered, uint8_t challenge,
                            const uint8_t *lent, size_t lent_length,
                            uint8_t *commitments, size_t commitments_length,
                            uint8_t *reply, size_t reply_length);

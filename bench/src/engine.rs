@@ -62,6 +62,30 @@ mod c {
             reply: *const u8,
             reply_len: usize,
         ) -> bool;
+        pub fn bench_commit(
+            phase: u8,
+            system: *const u8,
+            system_len: usize,
+            lent: *const u8,
+            lent_len: usize,
+            out: *mut u8,
+            out_len: usize,
+        ) -> u8;
+        pub fn bench_answer_alpha(
+            phase: u8,
+            system: *const u8,
+            system_len: usize,
+            alpha: u8,
+            out: *mut u8,
+            out_len: usize,
+        ) -> u8;
+        pub fn bench_take_reply(
+            phase: u8,
+            system: *const u8,
+            system_len: usize,
+            reply: *const u8,
+            reply_len: usize,
+        ) -> u8;
     }
 }
 
@@ -195,6 +219,48 @@ pub fn carrier(round: &Round, commitments: &[u8], middle: &[u8], reply: &[u8]) -
             middle.as_ptr(),
             middle.len(),
             round.challenge,
+            reply.as_ptr(),
+            reply.len(),
+        )
+    }
+}
+
+/// A card's commit in a phase: the refusal's number.
+pub fn commit(phase: u8, system: &[u8], lent: &[u8], out: &mut [u8]) -> u8 {
+    unsafe {
+        c::bench_commit(
+            phase,
+            system.as_ptr(),
+            system.len(),
+            lent.as_ptr(),
+            lent.len(),
+            out.as_mut_ptr(),
+            out.len(),
+        )
+    }
+}
+
+/// A card's answer to α in a phase: the refusal's number.
+pub fn answer_alpha(phase: u8, system: &[u8], alpha: u8, out: &mut [u8]) -> u8 {
+    unsafe {
+        c::bench_answer_alpha(
+            phase,
+            system.as_ptr(),
+            system.len(),
+            alpha,
+            out.as_mut_ptr(),
+            out.len(),
+        )
+    }
+}
+
+/// A carrier's taking of a reply in a phase: the refusal's number.
+pub fn take_reply(phase: u8, system: &[u8], reply: &[u8]) -> u8 {
+    unsafe {
+        c::bench_take_reply(
+            phase,
+            system.as_ptr(),
+            system.len(),
             reply.as_ptr(),
             reply.len(),
         )

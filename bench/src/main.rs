@@ -10,6 +10,7 @@ mod engine;
 mod inputs;
 mod machine;
 mod plain;
+mod refused;
 mod stack;
 mod stacks;
 mod table;
@@ -68,6 +69,9 @@ fn page(effort: Effort) -> String {
     page += "\n## The longest calls\n\n";
     page += times::LONGEST;
     page += &times::longest(effort);
+    page += "\n## Refused calls\n\n";
+    page += refused::TIMED;
+    page += &refused::table(effort);
     page += "\n## Stack use\n\n";
     page += stacks::MEASURED;
     page += &stacks::measured();

@@ -58,13 +58,13 @@ fn entries() -> Vec<(String, usize)> {
     let mut lent = elements(&mut random, q, 3 * long + tall);
     lent.extend(random.bytes_below(256, 96));
     let lent = &lent;
-    let simulated = |guess: u8, challenge: u8| -> Box<dyn FnMut() + Send + '_> {
+    let simulated = |unanswered: u8, challenge: u8| -> Box<dyn FnMut() + Send + '_> {
         let mut commitments = vec![0; 96];
         let mut reply = vec![0; 2 * long + tall + 64];
         Box::new(move || {
             let v = &card.v;
             let (sent, replied) = (&mut commitments, &mut reply);
-            let answer = engine::simulate(system, v, guess, challenge, lent, sent, replied);
+            let answer = engine::simulate(system, v, unanswered, challenge, lent, sent, replied);
             assert_eq!(answer, 0);
         })
     };

@@ -26,9 +26,10 @@ impl Table {
     }
 }
 
-/// Microseconds with three digits or so.
+/// Microseconds with three digits or so, and no more than three behind the point.
 pub fn micros(time: f64) -> String {
     match time {
+        time if time < 0.1 => format!("{time:.3}"),
         time if time < 10.0 => format!("{time:.2}"),
         time if time < 100.0 => format!("{time:.1}"),
         time => format!("{time:.0}"),

@@ -38,11 +38,11 @@ pub fn digest(message: &[u8], out: &mut [u8]) -> u8 {
     number(try_digest(message, out))
 }
 
-/// The arguments of `simulate`, in their order. `predicted` is Ch*, the challenge not to come.
+/// The arguments of `simulate`, in their order. `unanswered` is Ch*, the challenge that is not answered.
 pub struct Simulate<'a> {
     pub system: &'a [u8],
     pub v: &'a [u8],
-    pub predicted: u8,
+    pub unanswered: u8,
     pub challenge: u8,
     pub lent: &'a [u8],
     pub commitments: &'a mut [u8],
@@ -110,7 +110,7 @@ fn try_simulate(arguments: Simulate) -> Result<(), Refusal> {
     let Simulate {
         system,
         v,
-        predicted,
+        unanswered,
         challenge,
         lent,
         commitments,
@@ -132,10 +132,13 @@ fn try_simulate(arguments: Simulate) -> Result<(), Refusal> {
     let vectors = &lent[..simulator::lent_elements(&system)];
     unless(all_elements(system.field, v), Refusal::Element)?;
     unless(all_elements(system.field, vectors), Refusal::Element)?;
-    unless(scheme.challenges().contains(&predicted), Refusal::Challenge)?;
+    unless(
+        scheme.challenges().contains(&unanswered),
+        Refusal::Challenge,
+    )?;
     unless(scheme.challenges().contains(&challenge), Refusal::Challenge)?;
-    unless(challenge != predicted, Refusal::Challenge)?;
-    let simulation = Simulation::new(&system, v, predicted, lent);
+    unless(challenge != unanswered, Refusal::Challenge)?;
+    let simulation = Simulation::new(&system, v, unanswered, lent);
     commitments.copy_from_slice(&simulation.commitments());
     reply.copy_from_slice(&simulation.reply(challenge));
     Ok(())

@@ -17,23 +17,23 @@ pub fn lent_elements(system: &System) -> usize {
     3 * system.n + system.m()
 }
 
-/// A simulated round: the commitments, and a reply for each challenge, of which the one to the
-/// challenge predicted not to come is no good.
+/// A simulated round: the commitments, and a reply for each challenge, of which the one to Ch*, the
+/// challenge that is not answered, is no good.
 pub struct Simulation {
     pub round: Round,
     pub openings: [Opening; 3],
 }
 
 impl Simulation {
-    /// From v, Ch* and the lent slice.
-    pub fn new(system: &System, v: &[u8], predicted: u8, lent: &[u8]) -> Simulation {
+    /// From v, Ch* (`unanswered`) and the lent slice.
+    pub fn new(system: &System, v: &[u8], unanswered: u8, lent: &[u8]) -> Simulation {
         let (s, lent) = lent.split_at(system.n);
         let mut round = Round::new(system, s, lent);
-        if predicted == 0 {
+        if unanswered == 0 {
             round.e1 = shifted(system, v, s, &round);
         }
         let mut openings = round.openings(system);
-        if predicted == 2 {
+        if unanswered == 2 {
             let Round { r1, t1, e1, .. } = &round;
             openings[0].vectors[1] = masked_polar_by_key(system, v, r1, t1, e1);
         }

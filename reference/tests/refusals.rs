@@ -75,7 +75,7 @@ fn digest_lengths() {
 struct Simulation {
     system: Vec<u8>,
     v: Vec<u8>,
-    predicted: u8,
+    unanswered: u8,
     challenge: u8,
     lent: Vec<u8>,
     commitments: usize,
@@ -88,7 +88,7 @@ impl Simulation {
         Simulation {
             system: SMALL.to_vec(),
             v: vec![5, 6],
-            predicted: 0,
+            unanswered: 0,
             challenge: 1,
             lent: [vec![6; 8], vec![255; 96]].concat(),
             commitments: 96,
@@ -109,7 +109,7 @@ impl Simulation {
         let number = simulate(Simulate {
             system: &self.system,
             v: &self.v,
-            predicted: self.predicted,
+            unanswered: self.unanswered,
             challenge: self.challenge,
             lent: &self.lent,
             commitments: &mut commitments,
@@ -145,10 +145,10 @@ fn simulate_in_order() {
         (3, |s| s.lent[0] = 7),
         (3, |s| s.lent[3] = 7),
         (3, |s| s.lent[7] = 7),
-        (4, |s| s.predicted = 3),
+        (4, |s| s.unanswered = 3),
         (4, |s| s.challenge = 3),
-        (4, |s| s.predicted = 255),
-        (4, |s| s.challenge = s.predicted),
+        (4, |s| s.unanswered = 255),
+        (4, |s| s.challenge = s.unanswered),
     ];
     let good = Simulation::good();
     assert_eq!(good.number(), 0);
@@ -167,14 +167,14 @@ fn simulate_in_order() {
 
 #[test]
 fn simulate_every_challenge() {
-    for predicted in 0..=4 {
+    for unanswered in 0..=4 {
         for challenge in 0..=4 {
             let simulation = Simulation {
-                predicted,
+                unanswered,
                 challenge,
                 ..Simulation::good()
             };
-            let is_good = predicted < 3 && challenge < 3 && predicted != challenge;
+            let is_good = unanswered < 3 && challenge < 3 && unanswered != challenge;
             assert_eq!(simulation.number(), if is_good { 0 } else { 4 });
         }
     }

@@ -306,8 +306,8 @@ fn simulated_replies() {
         ] {
             let lent = [s.as_slice(), &card.lent].concat();
             assert_eq!(lent.len(), simulator::lent_length(system));
-            for predicted in card.scheme.challenges() {
-                let simulation = Simulation::new(system, v, predicted, &lent);
+            for unanswered in card.scheme.challenges() {
+                let simulation = Simulation::new(system, v, unanswered, &lent);
                 for challenge in card.scheme.challenges() {
                     let is_accepted = three_pass::accepts(
                         system,
@@ -317,7 +317,7 @@ fn simulated_replies() {
                         &simulation.reply(challenge),
                     );
                     let is_solved = evaluate(system, s) == *v;
-                    assert_eq!(is_accepted, challenge != predicted || is_solved);
+                    assert_eq!(is_accepted, challenge != unanswered || is_solved);
                 }
             }
         }
@@ -329,8 +329,8 @@ fn simulated_replies() {
 fn simulation_with_the_secret() {
     for card in cards(Scheme::ThreePass, 40) {
         let lent = [card.s.as_slice(), &card.lent].concat();
-        for predicted in card.scheme.challenges() {
-            let simulation = Simulation::new(&card.system, &card.v, predicted, &lent);
+        for unanswered in card.scheme.challenges() {
+            let simulation = Simulation::new(&card.system, &card.v, unanswered, &lent);
             for challenge in card.scheme.challenges() {
                 let round = card.transcript(0, challenge);
                 assert_eq!(simulation.commitments(), round.commitments);

@@ -55,12 +55,12 @@ pub struct Simulated {
     pub reply: Vec<u8>,
 }
 
-/// A three-pass round without the secret: `predicted` is the challenge that there is no reply to, and
+/// A three-pass round without the secret: `unanswered` is Ch*, the challenge that is not answered, and
 /// `challenge` the one replied to.
 pub fn simulate(
     system: &[u8],
     v: &[u8],
-    predicted: u8,
+    unanswered: u8,
     challenge: u8,
     lent: &[u8],
 ) -> Result<Simulated, Refusal> {
@@ -70,7 +70,7 @@ pub fn simulate(
     let number = slices::simulate(
         system,
         v,
-        predicted,
+        unanswered,
         challenge,
         lent,
         &mut commitments,

@@ -9,7 +9,7 @@ pub enum Refusal {
     Length,
     /// 3: an element is not below q.
     Element,
-    /// 4: a challenge is outside its values, or the one predicted.
+    /// 4: a challenge is outside its values, or is Ch*, the one not answered.
     Challenge,
     /// 6: a record's size, edition, table or total length is wrong.
     Record,

@@ -36,14 +36,14 @@ fn simulated() {
         let mut lent = shape.random_elements(&mut random, 3 * shape.n() + shape.m());
         lent.extend(any_bytes(&mut random, 96));
         perhaps_damage(&mut random, 8, &mut lent);
-        let [predicted, challenge] = [0; 2].map(|_| challenge(&mut random));
+        let [unanswered, challenge] = [0; 2].map(|_| challenge(&mut random));
         let outputs = [COMMITMENTS, 2 * shape.n() + shape.m() + 64];
         let [commitments, reply] = outputs.map(|right| output(&mut random, right));
         let own = |commitments: &mut [u8], reply: &mut [u8]| {
             entries::simulate(Simulate {
                 system: &system,
                 v: &v,
-                predicted,
+                unanswered,
                 challenge,
                 lent: &lent,
                 commitments,
@@ -56,7 +56,7 @@ fn simulated() {
         let found_answer = slices::simulate(
             &system,
             &v,
-            predicted,
+            unanswered,
             challenge,
             &lent,
             &mut found,
@@ -71,7 +71,7 @@ fn simulated() {
             reply: vec![0; reply_length(&system)],
         };
         let answer = own(&mut right.commitments, &mut right.reply);
-        let result = simulate(&system, &v, predicted, challenge, &lent);
+        let result = simulate(&system, &v, unanswered, challenge, &lent);
         assert_answers(result, answer, right);
         by_value.note(answer);
     }

@@ -1,2 +1,3 @@
--- What the contracts of this crate cite: a record's header, and a session's calls of one round.
+-- What the contracts of this crate cite: a record's header, a session's calls of one round, and sessions that refuse.
 pub mod Bench
+pub mod Refused

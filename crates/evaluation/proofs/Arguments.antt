@@ -9,8 +9,9 @@ use Rattle.refusal.specs.Refusal.{unless, _orElse_}
 use Rattle.refusal.proofs.Refusals.{first-zero, later-zero, test-holds, both-zero, unless-holds}
 use Rattle.field.specs.Ops.{isField}
 use Rattle.field.specs.Vector.{Elements, allBelow}
+use Rattle.field.proofs.Elements.{all-below-at, at-all-below}
 use Rattle.system.specs.System.{qOf, width, systemLength, isSize, areSizes, systemRefusal, WellFormedSystem}
-use Rattle.system.proofs.SystemLayout.{all-below-at, at-all-below, well-formed, not-refused, q-is, n-is, m-is}
+use Rattle.system.proofs.SystemLayout.{well-formed, not-refused, q-is, n-is, m-is}
 use Rattle.evaluation.specs.Arguments.{Evaluable, Polarisable}
 use Rattle.evaluation.specs.Entry.{evaluateRefusal, polarRefusal}
 use Rattle.evaluation.proofs.Entries.{evaluate-system, evaluate-x, evaluate-out, polar-system, polar-x, polar-y, polar-out}

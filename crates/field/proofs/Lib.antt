@@ -4,5 +4,6 @@ pub mod Sums
 pub mod Trial
 pub mod Remainders
 pub mod Fields
+pub mod Elements
 pub mod Vectors
 pub mod Rows

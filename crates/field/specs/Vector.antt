@@ -20,9 +20,14 @@ asVector l = vector (length l) (λ i. l ! i)
 unfoldable pub slotV : ℕ → ℕ → List ℕ → List ℕ
 slotV n place l = vector n (λ i. l ! (place + i))
 
--- each of the list is an element of a field of q
+-- each of the list is an element of a field of q: "below q"
 abbrev pub Elements : ℕ → List ℕ → Type 0
 Elements q l = (i : ℕ) → i < length l → l ! i < q
+
+-- the test of it, which refusals cite: `allBelow q l ≡ true` exactly where `Elements q l` (proofs/Elements.antt)
+unfoldable pub allBelow : ℕ → List ℕ → Bool
+allBelow q [] = true
+allBelow q (x ∷ xs) = ltb x q && allBelow q xs
 
 -- x is a vector of n elements
 pub record IsVector (o : Ops) (n : ℕ) (x : List ℕ) : Type 0 where
@@ -43,8 +48,3 @@ mulV o n a x = vector n (λ i. o .mul a (x ! i))
 unfoldable pub sum : Ops → ℕ → (ℕ → ℕ) → ℕ
 sum o zero f = 0
 sum o (suc n) f = o .add (sum o n f) (f n)
-
--- each element of the list is below q
-unfoldable pub allBelow : ℕ → List ℕ → Bool
-allBelow q [] = true
-allBelow q (x ∷ xs) = ltb x q && allBelow q xs

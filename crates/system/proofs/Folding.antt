@@ -3,11 +3,10 @@ use Prim.Native.Nat.{ℕ, zero, suc, _+_, _-_, _≤_, _<_}
 use mathlib.Core.Path.{_≡_, refl, sym, ap, ap₂, fun-ext, _∙_}
 use mathlib.Core.Bool.{Bool, true, false, cond}
 use mathlib.Core.List.{List}
-use native.Mathlib.Nat.{add-assoc, lt-of-not-le}
-use native.Mathlib.Decide.{decLe}
+use native.Mathlib.Nat.{add-assoc}
 use native.Mathlib.Omega.{arith}
 use lib.Dec.{eqb, leb}
-use lib.ListN.{length, drop, List·getD-eq-default}
+use lib.ListN.{drop}
 use lib.Seq.{getD-drop}
 use borrow.Author.Tests.{eqb-false, eq-eqb, ne-eqb, le-leb, lt-leb}
 use Rattle.slices.specs.Slices.{_!_}
@@ -17,10 +16,11 @@ use Rattle.field.specs.Vector.{vector, sum}
 use Rattle.field.proofs.Modulus.{size-of}
 use Rattle.field.proofs.Fields.{ring}
 use Rattle.field.proofs.Sums.{add-nought, add-mul, sum-cong, sum-add}
+use Rattle.field.proofs.Elements.{all-below-at, everywhere}
 use Rattle.field.proofs.Vectors.{vector-cong}
 use Rattle.system.specs.Polynomial.{pairs, polynomial, fullPolynomial, folded}
 use Rattle.system.specs.System.{qOf, nOf, mOf, opsOf, quadratic, linear, systemRefusal, F}
-use Rattle.system.proofs.SystemLayout.{accepted, all-below-at}
+use Rattle.system.proofs.SystemLayout.{accepted}
 
 module _ (o : Ops) (k : Ring o) where
   open Ops o using (size, add, mul)
@@ -116,10 +116,7 @@ module _ (b : List ℕ) (good : systemRefusal b ≡ 0) where
       let k = accepted b good in
       let size : opsOf b .size ≡ qOf b = size-of (qOf b) (k .is-field) in
       rw (← (getD-drop 3 b i 0))
-      (elim (decLe (length (drop 3 b)) i) [
-        | yes beyond ↦ rw (List·getD-eq-default (drop 3 b) 0 beyond) (ring (qOf b) .zero-below)
-        | no within ↦ rw size (all-below-at (qOf b) (drop 3 b) (k .elements) i (lt-of-not-le within))
-      ])
+      (everywhere (opsOf b .size) (drop 3 b) (ring (qOf b) .zero-below) (rw size (all-below-at (qOf b) (drop 3 b) (k .elements))) i)
 
   upper-folds : (l i j : ℕ) → i ≤ j → quadratic b l i j ≡ folded (opsOf b) (upper b l) i j
   unfolding folded

@@ -6,15 +6,16 @@ use mathlib.Core.List.{List, [], _∷_}
 use native.Mathlib.Nat.{mul-le-mul, le-refl, not-suc-le-zero, eq-or-lt-of-le, le-of-suc-le-suc}
 use mathlib.Core.Logic.{⊎-elim}
 use native.Mathlib.Omega.{arith}
-use lib.Dec.{T, leb, ltb, eqb, leb→le, le→leb}
+use lib.Dec.{T, leb, eqb, leb→le, le→leb}
 use lib.ListN.{length, drop, length-drop}
-use borrow.Author.Tests.{leb-true, eqb-true, ltb-true, le-leb, eq-eqb, lt-ltb}
+use borrow.Author.Tests.{leb-true, eqb-true, le-leb, eq-eqb}
 use Rattle.slices.specs.Slices.{_!_}
 use Rattle.slices.proofs.Booleans.{and-left, and-right}
 use Rattle.refusal.specs.Refusal.{unless, _orElse_}
 use Rattle.refusal.proofs.Refusals.{first-zero, later-zero, test-holds, unless-most, orElse-most}
 use Rattle.field.specs.Ops.{isField}
 use Rattle.field.specs.Vector.{allBelow}
+pub use Rattle.field.proofs.Elements.{all-below-at, at-all-below}
 use Rattle.system.specs.System.{qOf, nOf, mOf, width, systemLength, isSize, areSizes, hasSizes, systemRefusal, systemAgainst, WellFormedSystem, triangle}
 
 -- ---- widths
@@ -123,18 +124,6 @@ unfolding hasSizes
 sizes-has b q n m eq en em = rw (eq-eqb _ _ eq, eq-eqb _ _ en, eq-eqb _ _ em)
 
 -- ---- not refused is well-formed
-
-pub all-below-at : (q : ℕ) (s : List ℕ) → allBelow q s ≡ true → (i : ℕ) → i < length s → s ! i < q
-unfolding allBelow
-all-below-at q [] e i h = absurd (not-suc-le-zero h)
-all-below-at q (x ∷ s) e zero h = ltb-true x q (and-left (ltb x q) (allBelow q s) e)
-all-below-at q (x ∷ s) e (suc i) h = all-below-at q s (and-right (ltb x q) (allBelow q s) e) i (le-of-suc-le-suc h)
-
-pub at-all-below : (q : ℕ) (s : List ℕ) → ((i : ℕ) → i < length s → s ! i < q) → allBelow q s ≡ true
-unfolding allBelow
-at-all-below q [] each = refl
-at-all-below q (x ∷ s) each =
-    rw (lt-ltb x q (each 0 (omega arith)), at-all-below q s (λ i h. each (suc i) (omega arith)))
 
 pub well-formed : (b : List ℕ) → systemRefusal b ≡ 0 → WellFormedSystem b
 well-formed b h =

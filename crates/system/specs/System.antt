@@ -1,5 +1,5 @@
 -- Document 01, "System, F and G": a system's bytes, what is refused of them, F and G. Indices are counted from 0.
-use Prim.Native.Nat.{ℕ, zero, suc, _+_, _-_, _*_, _/_, _≤_, _<_}
+use Prim.Native.Nat.{ℕ, zero, suc, _+_, _-_, _*_, _/_, _≤_}
 use mathlib.Core.Path.{_≡_}
 use mathlib.Core.Bool.{Bool, true, _&&_}
 use mathlib.Core.List.{List, _∷_}
@@ -8,7 +8,7 @@ use lib.ListN.{length, drop}
 use Rattle.field.specs.Ops.{Ops, isField, ops}
 use Rattle.refusal.specs.Refusal.{unless, _orElse_}
 use Rattle.slices.specs.Slices.{_!_}
-use Rattle.field.specs.Vector.{vector, addV, subV, allBelow}
+use Rattle.field.specs.Vector.{vector, addV, subV, Elements, allBelow}
 use Rattle.system.specs.Polynomial.{polynomial}
 
 -- "System bytes: q, n, m, one byte each"
@@ -69,7 +69,7 @@ pub record WellFormedSystem (b : List ℕ) : Type 0 where
   pub n-size : (1 ≤ n) × (n ≤ 96)
   pub m-size : (1 ≤ m) × (m ≤ 96)
   pub count : length coefficients ≡ m * width n
-  pub elements : (i : ℕ) → i < length coefficients → coefficients ! i < q
+  pub elements : Elements q coefficients
 
 -- ---- F and G
 

@@ -6,7 +6,7 @@ mod layout;
 
 pub use layout::are_sizes;
 pub use layout::check;
-pub use layout::has_sizes;
 pub use layout::check_against;
+pub use layout::has_sizes;
 pub use layout::system_length;
 pub use layout::width;

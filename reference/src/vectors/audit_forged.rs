@@ -33,20 +33,20 @@ pub fn topics(scheme: Scheme) -> Vec<Topic> {
 fn simulated() -> Vec<Audit> {
     let mut random = Generator::from_seed(110);
     let mut audits = Vec::new();
-    for (predicted, q) in (0..3).zip([2, 31, 251]) {
+    for (unanswered, q) in (0..3).zip([2, 31, 251]) {
         let shape = Shape::new(q, 3, 2);
         let card = Card::random(&mut random, Scheme::ThreePass, shape);
         let other = shape.random_elements(&mut random, shape.n());
-        let [one, two] = [1, 2].map(|step| (predicted + step) % 3);
+        let [one, two] = [1, 2].map(|step| (unanswered + step) % 3);
         for challenges in [
             [one, two, one],
             [two, two, one],
-            [predicted, one, two],
-            [one, predicted, two],
-            [two, one, predicted],
+            [unanswered, one, two],
+            [one, unanswered, two],
+            [two, one, unanswered],
         ] {
             let records = challenges.map(|challenge| {
-                Session::of(&[simulated_round(&card, &other, predicted, challenge)])
+                Session::of(&[simulated_round(&card, &other, unanswered, challenge)])
             });
             audits.push(Audit::of(&records));
         }
@@ -55,10 +55,10 @@ fn simulated() -> Vec<Audit> {
 }
 
 /// The reply that a simulation with s' has to a challenge, Ch* too.
-fn simulated_round(card: &Card, s: &[u8], predicted: u8, challenge: u8) -> Judgement {
+fn simulated_round(card: &Card, s: &[u8], unanswered: u8, challenge: u8) -> Judgement {
     let system = read(&card.system);
     let lent = [s, &card.lent].concat();
-    let simulation = Simulation::new(&system, &card.v(), predicted, &lent);
+    let simulation = Simulation::new(&system, &card.v(), unanswered, &lent);
     card.judged(0, challenge).with_round(|round| {
         round.commitments = simulation.commitments();
         round.reply = simulation.reply(challenge);

@@ -4,7 +4,7 @@ use super::case::{Call, Group};
 use super::exchange::{read, Card, Input, Judgement, Span};
 use super::honest::{group, small_card, SMALL_ALPHA};
 use super::instance::Shape;
-use super::simulation::mispredicted;
+use super::simulation::unanswered_asked;
 use crate::commitment::{Opening, RHO};
 use crate::field::ORDERS;
 use crate::map::{evaluate, polar};
@@ -185,7 +185,7 @@ fn one_fails(random: &mut Generator, card: &Card, challenge: u8, which: usize) -
         let r = honest.span(Input::Reply, 0);
         let v = honest.span(Input::Key, 0);
         judgements.push(honest.changed(r, r.start + r.length - 1));
-        judgements.push(mispredicted(random, card, challenge));
+        judgements.push(unanswered_asked(random, card, challenge));
         if challenge == 1 {
             judgements.push(honest.changed(v, v.start));
         }

@@ -16,12 +16,13 @@ use crate::scheme::Scheme;
 use crate::sha256::DIGEST;
 use crate::simulator;
 
-/// The simulator's arguments. `predicted` is Ch*; outputs are given by their lengths.
+/// The simulator's arguments. `unanswered` is Ch*, the challenge that is not answered; outputs are given by their
+/// lengths.
 #[derive(Clone, Debug, PartialEq, Eq)]
 pub struct Simulation {
     pub system: Piece,
     pub v: Piece,
-    pub predicted: u8,
+    pub unanswered: u8,
     pub challenge: u8,
     pub lent: Piece,
     pub commitments: usize,
@@ -36,7 +37,7 @@ impl Simulation {
         let number = entries::simulate(Simulate {
             system: &self.system.expanded(),
             v: &self.v.expanded(),
-            predicted: self.predicted,
+            unanswered: self.unanswered,
             challenge: self.challenge,
             lent: &self.lent.expanded(),
             commitments: &mut commitments,
@@ -53,7 +54,7 @@ impl Simulation {
         vec![
             self.system.clone(),
             self.v.clone(),
-            Piece::byte(self.predicted),
+            Piece::byte(self.unanswered),
             Piece::byte(self.challenge),
             self.lent.clone(),
         ]
@@ -64,7 +65,7 @@ impl Simulation {
         Simulation {
             system,
             v,
-            predicted: 0,
+            unanswered: 0,
             challenge: 1,
             lent,
             commitments: 3 * DIGEST,
@@ -83,9 +84,9 @@ impl Simulation {
     }
 
     /// The same with these challenges.
-    fn challenged(&self, (predicted, challenge): (u8, u8)) -> Simulation {
+    fn challenged(&self, (unanswered, challenge): (u8, u8)) -> Simulation {
         Simulation {
-            predicted,
+            unanswered,
             challenge,
             ..self.clone()
         }
@@ -95,7 +96,7 @@ impl Simulation {
     fn judged(&self) -> Judgement {
         let system = read(&self.system);
         let (v, lent) = (self.v.expanded(), self.lent.expanded());
-        let round = simulator::Simulation::new(&system, &v, self.predicted, &lent);
+        let round = simulator::Simulation::new(&system, &v, self.unanswered, &lent);
         Judgement {
             scheme: Scheme::ThreePass,
             system: self.system.clone(),
@@ -112,7 +113,7 @@ impl Simulation {
 
 /// A card's round simulated with another secret s', F(s') other than v, and Ch* that came all the
 /// same.
-pub fn mispredicted(random: &mut Generator, card: &Card, challenge: u8) -> Judgement {
+pub fn unanswered_asked(random: &mut Generator, card: &Card, challenge: u8) -> Judgement {
     let system = read(&card.system);
     let v = card.v();
     let s = loop {
@@ -210,10 +211,10 @@ fn judged() -> Vec<Call> {
     let mut calls = Vec::new();
     for q in ORDERS {
         let simulation = Simulation::random(&mut random, Shape::new(q, 5, 3));
-        for predicted in Scheme::ThreePass.challenges() {
+        for unanswered in Scheme::ThreePass.challenges() {
             for challenge in Scheme::ThreePass.challenges() {
-                let judgement = simulation.challenged((predicted, challenge)).judged();
-                assert!(challenge == predicted || judgement.is_accepted());
+                let judgement = simulation.challenged((unanswered, challenge)).judged();
+                assert!(challenge == unanswered || judgement.is_accepted());
                 calls.push(Call::Judge(judgement));
             }
         }
@@ -330,7 +331,7 @@ impl Faults {
         let values = [0, 1, 2, 3, 255];
         let pairs = values
             .iter()
-            .flat_map(|&predicted| values.iter().map(move |&challenge| (predicted, challenge)));
+            .flat_map(|&unanswered| values.iter().map(move |&challenge| (unanswered, challenge)));
         pairs.map(|pair| self.good.challenged(pair)).collect()
     }
 

@@ -69,7 +69,7 @@ impl Case {
         entries::simulate(Simulate {
             system: &inputs[0],
             v: &inputs[1],
-            predicted: inputs[2][0],
+            unanswered: inputs[2][0],
             challenge: inputs[3][0],
             lent: &inputs[4],
             commitments,
