@@ -5,6 +5,7 @@
 use clash::first_clash;
 use clash::opened_pair;
 use commitment::Text;
+use commitment::empty;
 use comparable::comparable_refusal;
 use comparable::first_rejection;
 use full_set::answering;
@@ -12,9 +13,7 @@ use full_set::first_full;
 use openings::secret;
 use scheme::Scheme;
 ghost use mathlib.Core.Path.{_≡_};
-ghost use mathlib.Core.List.{[]};
 ghost use Rattle.system.specs.System.{systemRefusal};
-ghost use Rattle.commitment.specs.Texts.{text};
 ghost use Rattle.auditing.specs.Outcome.{refused as Outcome·refused, clashed as Outcome·clashed, Answers};
 ghost use Rattle.auditing.specs.Audit.{clashAt, secretAt, searchOf, auditOf, auditThree, auditFive};
 
@@ -32,16 +31,6 @@ pub struct Audited {
     pub secret: [u8; 96],
     pub first: Text,
     pub second: Text,
-}
-
-// The empty string.
-fn empty() -> Text
-    ensures { λ r. ⌜ r ≡ text [] ⌝ }
-{
-    Text {
-        bytes: [0; 322],
-        len: 0,
-    }
 }
 
 // A refusal, with the record and the round that it names.

@@ -9,6 +9,7 @@ use lib.ListN.{length, drop, List·getD-eq-default}
 use lib.Seq.{getD-take}
 use Rattle.slices.specs.Slices.{_!_}
 use Rattle.field.specs.Vector.{vector, slotV}
+use Rattle.field.proofs.Elements.{everywhere}
 use Rattle.field.proofs.Modulus.{size-of}
 use Rattle.field.proofs.Fields.{ring}
 use Rattle.system.specs.System.{qOf, nOf, mOf, opsOf, systemRefusal}
@@ -27,14 +28,6 @@ use Rattle.openings.specs.Openings.{replyVector}
 use Rattle.findings.specs.Findings.{Auditable}
 
 -- ---- of any record
-
--- what is read is below q, beyond the end too
-everywhere : (q : ℕ) (l : List ℕ) → 0 < q → Elements q l → (i : ℕ) → l ! i < q
-everywhere q l pos elements i =
-    elim (decLe (length l) i) [
-      | yes h ↦ rw (List·getD-eq-default l 0 h) pos
-      | no h ↦ elements i (lt-of-not-le h)
-    ]
 
 vectors-room : (scheme : Scheme) (n m : ℕ) → n ≤ vectorsLength scheme n m
 unfolding vectorsLength
