@@ -137,7 +137,7 @@ module _ (system a b c : List ℕ) where
 
   -- whatever stands in the place of a fourth record
   three-laws : (d : List ℕ) → Laws (threePass system a b c) b c d
-  unfolding threePass ofFourth leftRecord rightRecord commitmentCount commitmentsLength
+  unfolding threePass ofFourth leftRecord rightRecord lowerChallenge higherChallenge commitmentCount commitmentsLength
   three-laws d =
       record {
         passed-tells = λ k.

@@ -241,27 +241,27 @@ module _ (d : Domain) (system b : List ℕ) (r : ℕ) (same : d ≡ domainIn b) 
     z = replyIn system b r .z
 
     pub zero-first : roundChallenge b r ≡ 0 → vectorsFor 1 ≡ row system (t0Of (mapOf system .subX) x y) (e0Of (mapOf system) x z)
-    unfolding openings openingsThree withTwo openingOf stringOf inOrder
+    unfolding openings openingsThree withTwo openingOf stringOf inOrder replyThreeIn
     zero-first asked = vectors-by ThreePass 0 1 is asked ∙ behind-ρ d 1 _ _ (length-bytes _ _)
 
     pub zero-second : roundChallenge b r ≡ 0 → vectorsFor 2 ≡ row system y z
-    unfolding openings openingsThree withTwo openingOf stringOf inOrder
+    unfolding openings openingsThree withTwo openingOf stringOf inOrder replyThreeIn
     zero-second asked = vectors-by ThreePass 0 2 is asked ∙ behind-ρ d 2 _ _ (length-bytes _ _)
 
     pub one-first : roundChallenge b r ≡ 1 → vectorsFor 0 ≡ row system x (unmasked (mapOf system) (keyVector b) x y z)
-    unfolding openings openingsThree withTwo openingOf stringOf inOrder
+    unfolding openings openingsThree withTwo openingOf stringOf inOrder replyThreeIn
     one-first asked = vectors-by ThreePass 1 0 is asked ∙ behind-ρ d 0 _ _ (length-bytes _ _)
 
     pub one-second : roundChallenge b r ≡ 1 → vectorsFor 2 ≡ row system y z
-    unfolding openings openingsThree withTwo openingOf stringOf inOrder
+    unfolding openings openingsThree withTwo openingOf stringOf inOrder replyThreeIn
     one-second asked = vectors-by ThreePass 1 2 is asked ∙ behind-ρ d 2 _ _ (length-bytes _ _)
 
     pub two-first : roundChallenge b r ≡ 2 → vectorsFor 0 ≡ row system x (masked (mapOf system) y x z)
-    unfolding openings openingsThree withTwo openingOf stringOf inOrder
+    unfolding openings openingsThree withTwo openingOf stringOf inOrder replyThreeIn
     two-first asked = vectors-by ThreePass 2 0 is asked ∙ behind-ρ d 0 _ _ (length-bytes _ _)
 
     pub two-second : roundChallenge b r ≡ 2 → vectorsFor 1 ≡ row system y z
-    unfolding openings openingsThree withTwo openingOf stringOf inOrder
+    unfolding openings openingsThree withTwo openingOf stringOf inOrder replyThreeIn
     two-second asked = vectors-by ThreePass 2 1 is asked ∙ behind-ρ d 1 _ _ (length-bytes _ _)
 
   module _ (is : headerIn b .scheme ≡ FivePass) where
@@ -275,9 +275,9 @@ module _ (d : Domain) (system b : List ℕ) (r : ℕ) (same : d ≡ domainIn b) 
     α = roundTurn b r ! 0
 
     pub zero-vectors : roundChallenge b r ≡ 0 → vectorsFor 0 ≡ longRow system x5 (t0By (mapOf system) α x5 (sent .t1)) (e0By (mapOf system) α x5 (sent .e1))
-    unfolding openings openingsFive withThree openingOf stringOf inOrder
+    unfolding openings openingsFive withThree openingOf stringOf inOrder replyFiveIn
     zero-vectors asked = vectors-by FivePass 0 0 is asked ∙ behind-ρ d 0 _ _ (length-bytes _ _)
 
     pub one-vectors : roundChallenge b r ≡ 1 → vectorsFor 1 ≡ row system x5 (unmaskedBy (mapOf system) α (keyVector b) x5 (sent .t1) (sent .e1))
-    unfolding openings openingsFive withTwo openingOf stringOf inOrder
+    unfolding openings openingsFive withTwo openingOf stringOf inOrder replyFiveIn
     one-vectors asked = vectors-by FivePass 1 1 is asked ∙ behind-ρ d 1 _ _ (length-bytes _ _)
