@@ -1,5 +1,5 @@
 -- Outcomes and the answers that hold them. Assumes nothing.
-use Prim.Native.Nat.{ℕ, _≤_}
+use Prim.Native.Nat.{ℕ}
 use mathlib.Core.Path.{_≡_, refl, ap, ap₂, _∙_}
 use mathlib.Core.List.{List, []}
 use Rattle.slices.specs.Slices.{zeros}

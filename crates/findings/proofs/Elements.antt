@@ -1,11 +1,10 @@
 -- What an audited record holds: its key is that of the first, and the key, the first vector of each reply and α are elements. Assumes nothing.
 use Prim.Native.Nat.{ℕ, _+_, _≤_, _<_}
-use mathlib.Core.Path.{_≡_, refl, sym, ap, subst, _∙_}
+use mathlib.Core.Path.{_≡_, sym, ap, subst, _∙_}
 use mathlib.Core.List.{List}
-use native.Mathlib.Nat.{lt-of-not-le, zero-add}
-use native.Mathlib.Decide.{decLe}
+use native.Mathlib.Nat.{zero-add}
 use native.Mathlib.Omega.{arith}
-use lib.ListN.{length, drop, List·getD-eq-default}
+use lib.ListN.{length, drop}
 use lib.Seq.{getD-take}
 use Rattle.slices.specs.Slices.{_!_}
 use Rattle.field.specs.Vector.{vector, slotV}
@@ -20,7 +19,7 @@ use Rattle.scheme.specs.declared.Scheme.{Scheme}
 use Rattle.scheme.specs.declared.Scheme.the-variants.{ThreePass, FivePass}
 use Rattle.scheme.specs.Scheme.{turnLength, vectorsLength, rhosLength, replyLength}
 use Rattle.record_form.specs.declared.layout.Header.{Header}
-use Rattle.record_form.specs.Record.{Elements, ValidExchange, layoutOf, replyOf, vectorsOf, headerIn, fieldsIn}
+use Rattle.record_form.specs.Record.{ValidExchange, layoutOf, replyOf, vectorsOf, headerIn, fieldsIn}
 use Rattle.record.specs.Reader.{recordRefusal}
 use Rattle.record.proofs.RecordLayout.{not-refused, valid-fields}
 use Rattle.transcript.specs.Transcript.{domainIn, keyVector, roundExchange, roundTurn, roundReply}

@@ -2,14 +2,13 @@
 use Prim.Native.Nat.{ℕ, _≤_, _<_}
 use mathlib.Core.Path.{_≡_, refl, sym, ap, ap₂, subst, _∙_}
 use mathlib.Core.List.{List, _++_}
-use native.Mathlib.Omega.{arith}
 use lib.ListN.{take}
 use lib.Seq.{getD-take}
 use Rattle.slices.specs.Slices.{_!_}
 use Rattle.slices.proofs.Parts.{append-split}
 use Rattle.field.specs.Vector.{vector, slotV, addV}
 use Rattle.field.proofs.Vectors.{vector-at, vector-cong}
-use Rattle.system.specs.System.{qOf, nOf, mOf, opsOf, F, systemRefusal}
+use Rattle.system.specs.System.{nOf, mOf, opsOf, F, systemRefusal}
 use Rattle.system.proofs.SystemLayout.{accepted}
 use Rattle.protocol.specs.Protocols.{t0Of, e0Of, unmasked, masked, AgreeThree, t0By, e0By, unmaskedBy, AgreeFive}
 use Rattle.protocol.specs.Rounds.{mapOf, IsX}

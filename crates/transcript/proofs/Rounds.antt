@@ -1,5 +1,5 @@
 -- The rounds of a record, by the messages with which report and audit judge them: those that were written, and no others. Assumes nothing.
-use Prim.Native.Nat.{ℕ, _+_, _<_}
+use Prim.Native.Nat.{ℕ, _<_}
 use mathlib.Core.Path.{_≡_, refl, ap, _∙_}
 use mathlib.Core.List.{List, _∷_, _++_}
 use lib.ListN.{length}

@@ -98,11 +98,7 @@ pub fn round_turn(bytes: &[u8], r: u8) -> &[u8]
 {
     let h = header_of(bytes);
     let scheme = h.scheme;
-    part(
-        round_exchange(bytes, r),
-        0,
-        turn_length(scheme, h.n, h.m),
-    )
+    part(round_exchange(bytes, r), 0, turn_length(scheme, h.n, h.m))
 }
 
 // The challenge of a round.

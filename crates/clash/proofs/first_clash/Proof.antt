@@ -39,11 +39,11 @@ first-clash-spec =
     (λ c κs. search needs)
     (λ c. omega arith)
     (λ c. omega arith)
-    (λ c. 
+    (λ c.
     (where-step _ _ _ _ (c .before .before .before .loop .inv .0) (ap not (c .before .same-pair .ensures)) (ap not (c .if1 .taken)) refl, omega arith, omega arith))
     (λ c. omega arith)
-    (λ c. 
+    (λ c.
     answer _ _ _ _ _ _ _ _ _ (c .before .before .before .before .commitment-count .ensures .0)
     (where-here _ _ _ _ (c .before .before .before .loop .inv .0) (ap not (c .before .same-pair .ensures)) (ap not (c .if1 .left)) (omega (arith, c .before .before .loop-test .taken))))
-    (λ c. 
+    (λ c.
     answer _ _ _ _ _ _ _ _ _ (c .before .before .commitment-count .ensures .0) (where-end _ _ _ (c .before .loop .inv .0) (c .before .loop .inv .1) (omega (arith, c .loop-test .left)))))

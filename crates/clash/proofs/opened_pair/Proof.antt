@@ -18,7 +18,7 @@ opened-pair-spec =
     (λ c κs. search needs)
     (λ c κs. search needs)
     (λ c κs. search needs)
-    (λ c. 
+    (λ c.
     let a = c .before .before .before .before .before .before .before .before .before .args in
     record {
       left-text = text-as _ _ 0 _ (c .before .before .opening .ensures) (ap (λ (b : List ℕ). openingIn (a .system .now) b (a .r) (a .k)) (c .before .before .before .left-record .ensures));

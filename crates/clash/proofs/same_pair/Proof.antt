@@ -26,5 +26,5 @@ same-pair-spec =
     (λ c κs. search needs)
     (λ c κs. search needs)
     (λ c κs. search needs)
-    (λ c. 
+    (λ c.
     tested _ _ _ _ _ _ (c .before .before .before .before .opened-pair .ensures) (c .before .domain-in .ensures) (c .same-openings .ensures)))

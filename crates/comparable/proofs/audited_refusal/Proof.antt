@@ -51,10 +51,10 @@ audited-refusal-spec =
     (λ c. search needs)
     (λ c. search needs)
     (λ c κs. search needs)
-    (λ c. 
+    (λ c.
     passed-on _ _ _ _ _ (c .before .enum-told .given .1) (c .before .before .before .read .ensures .0) (c .refusal-of .ensures))
     (λ c κs. search needs)
     (λ c κs. search needs)
     (λ c κs. search needs)
-    (λ c. 
+    (λ c.
     gone-on _ _ _ _ _ (c .before .before .before .before .before .reading .given .1) (c .before .before .before .before .before .before .before .read .ensures .0) (simp (c .unless .ensures, c .before .byte-of2 .ensures, c .before .before .byte-of .ensures))))

@@ -31,13 +31,13 @@ comparable-refusal-spec =
     tie.close
     (tie.spec
     (λ c κs. search needs)
-    (λ c. 
+    (λ c.
     ends _ _ _ (c .before .check .ensures) (λ none. omega (arith, c .if1 .taken, none)) ∙ grouped _ _ _ _ _ _)
     (λ c κs. search needs)
-    (λ c. 
+    (λ c.
     goes-on _ _ _ _ (c .before .before .before .check .ensures) (omega (arith, c .before .before .if1 .left)) (ends _ _ _ (c .before .readings-refusal .ensures) (c .if2 .taken)) ∙ grouped _ _ _ _ _ _)
     (λ c κs. search needs)
-    (λ c. 
+    (λ c.
     goes-on _ _ _ _ (c .before .before .before .before .check .ensures) (omega (arith, c .before .before .before .if1 .left))
     (goes-on _ _ _ _ (c .before .before .readings-refusal .ensures) (c .before .if2 .left) (c .differing-refusal .ensures)) ∙
     grouped _ _ _ _ _ _))

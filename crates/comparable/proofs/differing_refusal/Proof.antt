@@ -9,17 +9,17 @@ differing-refusal-spec =
     tie.close
     (tie.spec
     (λ c κs. search needs)
-    (λ c. 
+    (λ c.
     ends _ _ _ (c .before .fit-refusal .ensures) (c .if1 .taken))
     (λ c κs. search needs)
-    (λ c. 
+    (λ c.
     goes-on _ _ _ _ (c .before .before .before .fit-refusal .ensures) (c .before .before .if1 .left) (ends _ _ _ (c .before .difference-refusal .ensures) (c .if2 .taken)))
     (λ c κs. search needs)
-    (λ c. 
+    (λ c.
     goes-on _ _ _ _ (c .before .before .before .before .before .fit-refusal .ensures) (c .before .before .before .before .if1 .left)
     (goes-on _ _ _ _ (c .before .before .before .difference-refusal .ensures) (c .before .before .if2 .left) (ends _ _ _ (c .before .difference-refusal2 .ensures) (c .if3 .taken))))
     (λ c κs. search needs)
-    (λ c. 
+    (λ c.
     goes-on _ _ _ _ (c .before .before .before .before .before .before .fit-refusal .ensures) (c .before .before .before .before .before .if1 .left)
     (goes-on _ _ _ _ (c .before .before .before .before .difference-refusal .ensures) (c .before .before .before .if2 .left)
     (goes-on _ _ _ _ (c .before .before .difference-refusal2 .ensures) (c .before .if3 .left) (c .fourth-difference .ensures)))))

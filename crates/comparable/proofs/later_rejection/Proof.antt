@@ -12,10 +12,10 @@ later-rejection-spec =
     tie.close
     (tie.spec
     (λ c κs. search needs)
-    (λ c. 
+    (λ c.
     rejected-here _ _ _ _ (c .before .rejected-round .ensures) (c .if1 .taken))
     (λ c κs. search needs)
-    (λ c. 
+    (λ c.
     rejected-later _ _ _ _ _ (c .before .before .before .rejected-round .ensures) (c .before .before .if1 .left) (rejected-here _ _ _ _ (c .before .fourth-rejected .ensures) (c .if2 .taken)))
-    (λ c. 
+    (λ c.
     rejected-later _ _ _ _ _ (c .before .before .before .rejected-round .ensures) (c .before .before .if1 .left) (rejected-later _ _ _ _ _ (c .before .fourth-rejected .ensures) (c .if2 .left) refl)))

@@ -19,10 +19,10 @@ opening-spec =
     (tie.spec
     (λ c κs. search needs)
     (λ c. search needs)
-    (λ c κs. 
+    (λ c κs.
     (c .before .before .before .before .before .pre, is-of _ _ _ (c .before .before .header-of .ensures) (c .enum-told .given .1)))
     (λ c. search needs)
-    (λ c κs. 
+    (λ c κs.
     (c .before .before .before .before .before .pre, is-of _ _ _ (c .before .before .header-of .ensures) (c .enum-told2 .given .1)))
     (λ c. c .opening-three-in .ensures)
     (λ c. c .opening-five-in .ensures))

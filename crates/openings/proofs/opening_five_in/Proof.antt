@@ -20,6 +20,6 @@ opening-five-in-spec =
     (λ c κs. search needs)
     (λ c κs. search needs)
     (λ c κs. search needs)
-    (λ c. 
+    (λ c.
     text-as _ _ 0 _ (c .opening-five .ensures)
     (simp (c .before .read-reply-five .ensures, c .before .before .round-reply .ensures, c .before .before .before .round-challenge .ensures, c .before .before .before .before .read-middle .ensures, c .before .before .before .before .before .key-vector .ensures, c .before .before .before .before .before .before .byte-at3 .ensures, c .before .before .before .before .before .before .before .domain-in .ensures, c .before .before .before .before .before .before .before .before .round-turn .ensures, c .before .before .before .before .before .before .before .before .before .byte-at2 .ensures, c .before .before .before .before .before .before .before .before .before .before .byte-at .ensures) (five-in _ _ _ _ (c .before .before .before .before .before .before .before .before .before .before .before .before .before .pre .1)))))

@@ -15,9 +15,9 @@ opening-three-spec =
     (λ c κs. search needs)
     (λ c κs. search needs)
     (λ c κs. search needs)
-    (λ c. 
+    (λ c.
     let number = c .before .before .first-number .ensures _ _ _ in
     text-as _ _ 0 _ (no-more _ 1 _ (c .first-opening .ensures)) (ap (stringOf _) (first-of-two _ _ (three-are-two _ _ _ _) (c .before .if1 .taken ∙ number))))
-    (λ c. 
+    (λ c.
     let number = c .before .before .first-number .ensures _ _ _ in
     text-as _ _ 0 _ (no-more _ 1 _ (c .second-opening .ensures .1 _)) (ap (stringOf _) (second-of-two _ _ (three-are-two _ _ _ _) (λ e. c .before .if1 .left (e ∙ sym number))))))

@@ -17,6 +17,6 @@ opening-three-in-spec =
     (λ c κs. search needs)
     (λ c κs. search needs)
     (λ c κs. search needs)
-    (λ c. 
+    (λ c.
     text-as _ _ 0 _ (c .opening-three .ensures)
     (simp (c .before .read-reply-three .ensures, c .before .before .round-reply .ensures, c .before .before .before .round-challenge .ensures, c .before .before .before .before .key-vector .ensures, c .before .before .before .before .before .domain-in .ensures, c .before .before .before .before .before .before .byte-at2 .ensures, c .before .before .before .before .before .before .before .byte-at .ensures) (three-in _ _ _ _ (c .before .before .before .before .before .before .before .before .before .before .pre .1)))))

@@ -3,7 +3,7 @@ use Prim.Native.Nat.{ℕ}
 use mathlib.Core.Path.{_≡_, ap₂, _∙_}
 use mathlib.Core.List.{List}
 use native.Mathlib.Omega.{arith}
-use lib.ListN.{length, take, drop, length-take, length-drop}
+use lib.ListN.{take, drop, length-take, length-drop}
 use lib.Seq.{take-all}
 use Rattle.slices.specs.Slices.{same}
 use Rattle.commitment.specs.declared.Domain.{Domain}
@@ -35,7 +35,7 @@ same-openings-spec =
     (λ c κs. search needs)
     (λ c κs. search needs)
     (λ c κs. search needs)
-    (λ c. 
+    (λ c.
     let a = c .before .before .before .before .before .before .before .before .before .before .args in
     let at = c .before .before .before .before .before .before .before .vectors-at .ensures .0 in
     let left = side (a .d) (a .x .len) (c .before .before .before .before .before .before .before .vectors-at .result) (a .x .bytes) _ _ (c .before .before .before .before .before .part .ensures) (c .before .before .before .before .part2 .ensures) at in

@@ -3,7 +3,6 @@ use Prim.Native.Nat.{ℕ, _+_}
 use mathlib.Core.Path.{_≡_, refl, sym, ap, _∙_}
 use native.Mathlib.Omega.{arith}
 use lib.ListN.{length}
-use Rattle.refusal.specs.Refusal.{kept}
 use Rattle.refusal.proofs.Refusals.{kept-refused, kept-accepted}
 use Rattle.record_form.specs.declared.layout.Header.{Header}
 use Rattle.record_form.specs.Record.{Fields, recordLength, written}
@@ -27,15 +26,16 @@ write-spec =
     (tie.spec
     (λ c κs. search needs)
     (λ c κs. search needs)
-    (λ c. 
+    (λ c.
     (simp (c .before .write-refusal .ensures, c .before .before .header-from .ensures), sym (kept-refused _ _ _ (c .if1 .taken))))
-    (λ c κs. 
+    (λ c κs.
     let fits = room _ _ _ (sym (c .before .before .write-refusal .ensures) ∙ c .before .if1 .left) in
     omega arith)
     (λ c. search needs)
-    (λ c. 
-    let args = c .before .before .before .before .before .before .before .before .before .before .before .args in
-    (sym (c .before .before .before .before .if1 .left) ∙ simp (c .before .before .before .before .before .write-refusal .ensures, c .before .before .before .before .before .before .header-from .ensures),
-    c .before .before .put-record .ensures ∙
-    ap (λ (h : Header). written (fieldsOf h (args .key .now) (args .commitments .now) (args .exchanges .now))) (c .before .before .before .before .before .before .header-from .ensures) ∙
-    sym (kept-accepted 0 _ _ refl))))
+    (λ c.
+    let args = c .before .before .before .before .before .before .before .before .before .before .before .args in (
+      sym (c .before .before .before .before .if1 .left) ∙ simp (c .before .before .before .before .before .write-refusal .ensures, c .before .before .before .before .before .before .header-from .ensures),
+      c .before .before .put-record .ensures ∙
+          ap (λ (h : Header). written (fieldsOf h (args .key .now) (args .commitments .now) (args .exchanges .now))) (c .before .before .before .before .before .before .header-from .ensures) ∙
+          sym (kept-accepted 0 _ _ refl),
+    )))

@@ -45,7 +45,7 @@ write-refusal-spec =
     (λ c κs. search needs)
     (λ c κs. search needs)
     (λ c κs. search needs)
-    (λ c. 
+    (λ c.
     ends _ _ _ (simp (c .before .first .ensures, c .before .before .unless2 .ensures, c .before .before .before .are-values .ensures, c .before .before .before .before .unless .ensures, c .before .before .before .before .before .is-scheme .ensures)) (c .if1 .taken) ∙ grouped _ _ _)
     (λ c κs. search needs)
     (λ c κs. search needs)
@@ -56,7 +56,7 @@ write-refusal-spec =
     (λ c κs. search needs)
     (λ c κs. search needs)
     (λ c κs. search needs)
-    (λ c. 
+    (λ c.
     goes-on _ _ _ _ (simp (c .before .before .before .before .before .before .before .before .before .before .before .before .before .before .first .ensures, c .before .before .before .before .before .before .before .before .before .before .before .before .before .before .before .unless2 .ensures, c .before .before .before .before .before .before .before .before .before .before .before .before .before .before .before .before .are-values .ensures, c .before .before .before .before .before .before .before .before .before .before .before .before .before .before .before .before .before .unless .ensures, c .before .before .before .before .before .before .before .before .before .before .before .before .before .before .before .before .before .before .is-scheme .ensures)) (c .before .before .before .before .before .before .before .before .before .before .before .before .before .if1 .left)
     (ends _ _ _ (simp (c .before .first4 .ensures, c .before .before .unless6 .ensures, c .before .before .before .record-length .ensures .0, c .before .before .before .before .first3 .ensures, c .before .before .before .before .before .first2 .ensures, c .before .before .before .before .before .before .unless5 .ensures, c .before .before .before .before .before .before .before .before .unless4 .ensures, c .before .before .before .before .before .before .before .before .before .before .unless3 .ensures, c .before .before .before .before .before .before .before .before .before .before .before .before .laid-out .ensures .0)) (c .if2 .taken)) ∙
     grouped _ _ _)
@@ -64,13 +64,13 @@ write-refusal-spec =
     (λ c κs. search needs)
     (λ c κs. search needs)
     (λ c κs. search needs)
-    (λ c. 
+    (λ c.
     goes-on _ _ _ _ (simp (c .before .before .before .before .before .before .before .before .before .before .before .before .before .before .before .before .before .before .before .first .ensures, c .before .before .before .before .before .before .before .before .before .before .before .before .before .before .before .before .before .before .before .before .unless2 .ensures, c .before .before .before .before .before .before .before .before .before .before .before .before .before .before .before .before .before .before .before .before .before .are-values .ensures, c .before .before .before .before .before .before .before .before .before .before .before .before .before .before .before .before .before .before .before .before .before .before .unless .ensures, c .before .before .before .before .before .before .before .before .before .before .before .before .before .before .before .before .before .before .before .before .before .before .before .is-scheme .ensures)) (c .before .before .before .before .before .before .before .before .before .before .before .before .before .before .before .before .before .before .if1 .left)
     (goes-on _ _ _ _ (simp (c .before .before .before .before .before .before .first4 .ensures, c .before .before .before .before .before .before .before .unless6 .ensures, c .before .before .before .before .before .before .before .before .record-length .ensures .0, c .before .before .before .before .before .before .before .before .before .first3 .ensures, c .before .before .before .before .before .before .before .before .before .before .first2 .ensures, c .before .before .before .before .before .before .before .before .before .before .before .unless5 .ensures, c .before .before .before .before .before .before .before .before .before .before .before .before .before .unless4 .ensures, c .before .before .before .before .before .before .before .before .before .before .before .before .before .before .before .unless3 .ensures, c .before .before .before .before .before .before .before .before .before .before .before .before .before .before .before .before .before .laid-out .ensures .0)) (c .before .before .before .before .before .if2 .left)
     (ends _ _ _ (simp (c .before .first5 .ensures, c .before .before .exchanges-refusal .ensures, c .before .before .before .unless7 .ensures, c .before .before .before .before .all-below .ensures)) (c .if3 .taken))) ∙
     grouped _ _ _)
     (λ c κs. search needs)
-    (λ c. 
+    (λ c.
     goes-on _ _ _ _ (simp (c .before .before .before .before .before .before .before .before .before .before .before .before .before .before .before .before .before .before .before .before .first .ensures, c .before .before .before .before .before .before .before .before .before .before .before .before .before .before .before .before .before .before .before .before .before .unless2 .ensures, c .before .before .before .before .before .before .before .before .before .before .before .before .before .before .before .before .before .before .before .before .before .before .are-values .ensures, c .before .before .before .before .before .before .before .before .before .before .before .before .before .before .before .before .before .before .before .before .before .before .before .unless .ensures, c .before .before .before .before .before .before .before .before .before .before .before .before .before .before .before .before .before .before .before .before .before .before .before .before .is-scheme .ensures)) (c .before .before .before .before .before .before .before .before .before .before .before .before .before .before .before .before .before .before .before .if1 .left)
     (goes-on _ _ _ _ (simp (c .before .before .before .before .before .before .before .first4 .ensures, c .before .before .before .before .before .before .before .before .unless6 .ensures, c .before .before .before .before .before .before .before .before .before .record-length .ensures .0, c .before .before .before .before .before .before .before .before .before .before .first3 .ensures, c .before .before .before .before .before .before .before .before .before .before .before .first2 .ensures, c .before .before .before .before .before .before .before .before .before .before .before .before .unless5 .ensures, c .before .before .before .before .before .before .before .before .before .before .before .before .before .before .unless4 .ensures, c .before .before .before .before .before .before .before .before .before .before .before .before .before .before .before .before .unless3 .ensures, c .before .before .before .before .before .before .before .before .before .before .before .before .before .before .before .before .before .before .laid-out .ensures .0)) (c .before .before .before .before .before .before .if2 .left)
     (goes-on _ _ _ _ (simp (c .before .before .first5 .ensures, c .before .before .before .exchanges-refusal .ensures, c .before .before .before .before .unless7 .ensures, c .before .before .before .before .before .all-below .ensures)) (c .before .if3 .left) (c .exchanges-refusal2 .ensures))) ∙

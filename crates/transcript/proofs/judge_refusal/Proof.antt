@@ -12,14 +12,14 @@ judge-refusal-spec =
     tie.close
     (tie.spec
     (λ c κs. search needs)
-    (λ c. 
+    (λ c.
     ends _ _ _ (c .before .check .ensures) (λ none. omega (arith, c .if1 .taken, none)))
     (λ c κs. search needs)
     (λ c κs. search needs)
-    (λ c. 
+    (λ c.
     goes-on _ _ _ _ (c .before .before .before .before .check .ensures) (omega (arith, c .before .before .before .if1 .left))
     (ends _ _ _ (simp (c .before .refusal-of .ensures, c .before .before .read .ensures .1)) (λ none. omega (arith, c .if2 .taken, none))))
     (λ c κs. search needs)
-    (λ c. 
+    (λ c.
     goes-on _ _ _ _ (c .before .before .before .before .before .check .ensures) (omega (arith, c .before .before .before .before .if1 .left))
     (goes-on _ _ (c .before .before .refusal-of .result) _ (simp (c .before .before .refusal-of .ensures, c .before .before .before .read .ensures .1)) (omega (arith, c .before .if2 .left)) (c .fit-refusal .ensures))))
