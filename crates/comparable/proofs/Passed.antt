@@ -3,25 +3,26 @@ use Prim.Native.Nat.{ℕ}
 use mathlib.Core.Path.{_≡_}
 use mathlib.Core.List.{List}
 use Rattle.refusal.proofs.Refusals.{first-zero, later-zero, both-zero}
+use Rattle.scheme.specs.declared.Scheme.{Scheme}
 use Rattle.system.specs.System.{systemRefusal}
 use Rattle.transcript.specs.Transcript.{fitRefusal}
-use Rattle.comparable.specs.Comparable.{auditedRefusal, differenceRefusal, frontRefusal}
+use Rattle.comparable.specs.Comparable.{auditedRefusal, differenceRefusal, ofFourth, comparableRefusal}
 
-pub record Front (scheme : ℕ) (system a b c d : List ℕ) : Type 0 where
+pub record Passed (scheme : Scheme) (system a b c d : List ℕ) : Type 0 where
   pub good : systemRefusal system ≡ 0
   pub read-a : auditedRefusal scheme a ≡ 0
   pub read-b : auditedRefusal scheme b ≡ 0
   pub read-c : auditedRefusal scheme c ≡ 0
-  pub read-d : auditedRefusal scheme d ≡ 0
+  pub read-d : ofFourth scheme (auditedRefusal scheme d) ≡ 0
   pub fit : fitRefusal system a ≡ 0
   pub same-b : differenceRefusal a b ≡ 0
   pub same-c : differenceRefusal a c ≡ 0
-  pub same-d : differenceRefusal a d ≡ 0
+  pub same-d : ofFourth scheme (differenceRefusal a d) ≡ 0
 
-module _ (scheme : ℕ) (system a b c d : List ℕ) where
-  pub front : frontRefusal scheme system a b c d ≡ 0 → Front scheme system a b c d
-  unfolding frontRefusal
-  front e =
+module _ (scheme : Scheme) (system a b c d : List ℕ) where
+  pub passed : comparableRefusal scheme system a b c d ≡ 0 → Passed scheme system a b c d
+  unfolding comparableRefusal
+  passed e =
       let of-a = later-zero _ _ e in
       let of-b = later-zero _ _ of-a in
       let of-c = later-zero _ _ of-b in
@@ -41,8 +42,8 @@ module _ (scheme : ℕ) (system a b c d : List ℕ) where
         same-d = later-zero _ _ of-last;
       }
 
-  pub none-refused : Front scheme system a b c d → frontRefusal scheme system a b c d ≡ 0
-  unfolding frontRefusal
+  pub none-refused : Passed scheme system a b c d → comparableRefusal scheme system a b c d ≡ 0
+  unfolding comparableRefusal
   none-refused k =
       both-zero _ _ (k .good) (both-zero _ _ (k .read-a) (both-zero _ _ (k .read-b) (both-zero _ _ (k .read-c) (both-zero _ _ (k .read-d)
       (both-zero _ _ (k .fit) (both-zero _ _ (k .same-b) (both-zero _ _ (k .same-c) (k .same-d))))))))

@@ -1,13 +1,13 @@
 -- Each arm knows its variant. Assumes nothing.
 use mathlib.Core.Path.{refl}
-use Rattle.finding_layout.specs.FindingLayout.{front}
+use Rattle.finding_layout.specs.FindingLayout.{kindBytes}
 use borrow.Author.Needs.{needs}
-use Rattle.finding_layout.proofs.front.Statement.{statement}
-use Rattle.finding_layout.proofs.front.Tie as tie
+use Rattle.finding_layout.proofs.kind_bytes.Statement.{statement}
+use Rattle.finding_layout.proofs.kind_bytes.Tie as tie
 
-pub front-spec : {M : Type 1} → statement M
-unfolding front
-front-spec =
+pub kind-bytes-spec : {M : Type 1} → statement M
+unfolding kindBytes
+kind-bytes-spec =
     tie.close
     (tie.spec
     (λ c. search needs)
