@@ -1,6 +1,6 @@
 -- Honest rounds at their bytes, for every system that is not refused: what the card sends is accepted, and has its lengths and elements. Assumes nothing.
 use Prim.Native.Nat.{ℕ, _+_, _≤_}
-use mathlib.Core.Path.{_≡_}
+use mathlib.Core.Path.{_≡_, ap, ap₂, _∙_}
 use mathlib.Core.Bool.{true}
 use mathlib.Core.List.{List, _∷_}
 use lib.Dec.{eqb}
@@ -10,17 +10,21 @@ use Rattle.field.specs.Vector.{allBelow}
 use Rattle.field.proofs.Fields.{ring}
 use Rattle.system.specs.System.{qOf, nOf, mOf, opsOf, systemRefusal, F}
 use Rattle.system.proofs.SystemLayout.{accepted}
+use Rattle.scheme.specs.declared.Scheme.{Scheme}
 use Rattle.scheme.specs.declared.Scheme.the-variants.{ThreePass, FivePass}
 use Rattle.scheme.specs.Scheme.{commitmentsLength, rhosLength, replyLength}
 use Rattle.commitment.specs.declared.Domain.{Domain}
 use Rattle.protocol.specs.Protocols as P
-use Rattle.protocol.specs.Protocols.{cardFive}
+use Rattle.protocol.specs.Protocols.{r1Of, cardFive}
 use Rattle.protocol.specs.Rounds.{IsX}
 use Rattle.protocol.proofs.SystemMap.{vectors}
 use Rattle.protocol.proofs.Rounds.{elements-three, elements-five}
 use Rattle.round.specs.declared.pieces.Middle.{Middle}
+use Rattle.round.specs.declared.pieces.ReplyThree.{ReplyThree}
 use Rattle.round.specs.declared.pieces.ReplyFive.{ReplyFive}
-use Rattle.round.specs.FivePass.{middleFive, replyFive}
+use Rattle.round.specs.Openings.{allOpen}
+use Rattle.round.specs.ThreePass.{openingsThree}
+use Rattle.round.specs.FivePass.{middleFive, replyFive, openingsFive}
 use Rattle.round.proofs.Acceptance.{accepted-three, accepted-five}
 use Rattle.exchange.specs.Messages.{lentIn, openings, accepts}
 use Rattle.exchange.specs.Messages.{threeCommitments, fiveCommitments, replyThreeBytes, middleBytes, replyFiveBytes}
@@ -79,7 +83,7 @@ module _ (b : List ℕ) (good : systemRefusal b ≡ 0) where
         replied-is b _ (lentIn (nOf b) (mOf b) lent .rhos) (elements-three b good s _ _ _ (k .r0-is) (k .t0-is) (k .e0-is)) (length-bytes _ lent) (length-bytes _ lent) (length-bytes _ lent) challenge
 
     pub five-reply-is : Lends b lent → (challenge : ℕ) → IsReplyFive (opsOf b) (nOf b) (fiveReplied b s lent challenge)
-    unfolding replyFive lentIn
+    unfolding replyFive r1Of lentIn
     five-reply-is h challenge =
         either (IsReplyFive (opsOf b) (nOf b)) (eqb challenge 0) _ _
         (record { x-is = lent-is b good lent h .r0-is; rho-long = length-bytes _ lent })
@@ -90,24 +94,32 @@ module _ (b : List ℕ) (good : systemRefusal b ≡ 0) where
     module _ (d : Domain) (v : List ℕ) (key : F b s ≡ v) (hs : IsX b s) (h : Lends b lent) where
       pub honest-three : d .scheme ≡ ThreePass → (turn : List ℕ) (challenge : ℕ) → challenge ≤ 2 →
           accepts b d v (threeCommitments (threeCommitted d b s lent)) turn challenge (replyThreeBytes (nOf b) (mOf b) (threeReplied b s lent challenge)) ≡ true
-      unfolding accepts openings threeReplied threeVectors
+      unfolding accepts openings threeCommitted threeReplied threeVectors
       honest-three three turn challenge small =
           let a = accepted b good in
           let k = lent-is b good lent h in
           let l = lentIn (nOf b) (mOf b) lent in
-          rw (three, reply-three-back (opsOf b) (nOf b) (mOf b) _ (a .n-high) (a .m-high) (three-reply-is h challenge))
-          (accepted-three d b v (l .rhos) good s (l .r0) (l .t0) (l .e0) hs (k .r0-is) (k .t0-is) (k .e0-is) key _ (three-at _ (three-are d s lent)) challenge small)
+          let c = threeCommitments (threeCommitted d b s lent) in
+          ap (λ (scheme : Scheme). allOpen d c (openings b scheme v turn challenge (replyThreeBytes (nOf b) (mOf b) (threeReplied b s lent challenge)))) three ∙
+          ap (λ (r : ReplyThree). allOpen d c (openingsThree b v challenge r))
+          (reply-three-back (opsOf b) (nOf b) (mOf b) _ (a .n-high) (a .m-high) (three-reply-is h challenge)) ∙
+          accepted-three d b v (l .rhos) good s (l .r0) (l .t0) (l .e0) hs (k .r0-is) (k .t0-is) (k .e0-is) key c (three-at _ (three-are d s lent)) challenge small
 
       pub honest-five : d .scheme ≡ FivePass → (α challenge : ℕ) → challenge ≤ 1 →
           accepts b d v (fiveCommitments (fiveCommitted d b s lent)) (α ∷ middleBytes (nOf b) (mOf b) (fiveMiddle b lent α)) challenge
           (replyFiveBytes (nOf b) (fiveReplied b s lent challenge)) ≡ true
-      unfolding accepts openings
+      unfolding accepts openings fiveCommitted
       honest-five five α challenge small =
           let a = accepted b good in
           let k = lent-is b good lent h in
           let l = lentIn (nOf b) (mOf b) lent in
-          rw (five, middle-back (opsOf b) (nOf b) (mOf b) α (fiveMiddle b lent α) (a .n-high) (a .m-high) (middle-is lent h α), reply-five-back (opsOf b) (nOf b) (fiveReplied b s lent challenge) (a .n-high) (five-reply-is h challenge))
-          (accepted-five d b v (l .rhos) good α s (l .r0) (l .t0) (l .e0) hs (k .t0-is) (k .e0-is) key _ (two-at _ (five-are d s lent)) challenge small)
+          let c = fiveCommitments (fiveCommitted d b s lent) in
+          let turn = α ∷ middleBytes (nOf b) (mOf b) (fiveMiddle b lent α) in
+          ap (λ (scheme : Scheme). allOpen d c (openings b scheme v turn challenge (replyFiveBytes (nOf b) (fiveReplied b s lent challenge)))) five ∙
+          ap₂ (λ (sent : Middle) (r : ReplyFive). allOpen d c (openingsFive b α v sent challenge r))
+          (middle-back (opsOf b) (nOf b) (mOf b) α (fiveMiddle b lent α) (a .n-high) (a .m-high) (middle-is lent h α))
+          (reply-five-back (opsOf b) (nOf b) (fiveReplied b s lent challenge) (a .n-high) (five-reply-is h challenge)) ∙
+          accepted-five d b v (l .rhos) good α s (l .r0) (l .t0) (l .e0) hs (k .t0-is) (k .e0-is) key c (two-at _ (five-are d s lent)) challenge small
 
     -- ---- has its lengths and elements
 

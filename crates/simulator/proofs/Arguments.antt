@@ -1,6 +1,6 @@
 -- The simulator refuses exactly the arguments that are not as document 01 asks. Assumes nothing.
 use Prim.Native.Nat.{ℕ, _+_, _≤_, _<_}
-use mathlib.Core.Path.{_≡_, refl, sym, ap, _∙_}
+use mathlib.Core.Path.{_≡_, refl, sym, ap, subst, _∙_}
 use mathlib.Core.Bool.{true, not}
 use mathlib.Core.List.{List, [], _∷_, _++_}
 use native.Mathlib.Omega.{arith}
@@ -91,6 +91,9 @@ module _ (q n m : ℕ) (lent : List ℕ) (long : length lent ≡ n + n + n + m +
 
 -- ---- the call
 
+drawn : (n m : ℕ) → n + n + n + m ≡ n + (n + n + m)
+drawn n m = omega arith
+
 module _ (b v : List ℕ) (unanswered challenge : ℕ) (lent : List ℕ) (commitments reply : ℕ) where
   pub simulate-not-refused : Simulable b v unanswered challenge lent commitments reply → simulateRefusal b v unanswered challenge lent commitments reply ≡ 0
   unfolding simulateRefusal drawnLength commitmentsLength commitmentCount replyLength vectorsLength rhosLength openedCount
@@ -106,7 +109,7 @@ module _ (b v : List ℕ) (unanswered challenge : ℕ) (lent : List ℕ) (commit
       (both-zero _ _ (unless-holds _ 2 (eq-eqb (length v) _ (k .key .0 ∙ sym m))) (unless-holds _ 2 (eq-eqb (length lent) _ (omega arith))))
       (both-zero _ _ (unless-holds _ 2 (eq-eqb commitments _ (omega (arith, k .commitments-length)))) (unless-holds _ 2 (eq-eqb reply _ (omega (arith, k .reply-length))))))
       (both-zero _ _
-      (both-zero _ _ (unless-holds _ 3 (at-all-below (qOf b) v (rw q (k .key .1)))) (unless-holds _ 3 (rw (q, n, m) (pieces-below _ _ _ _ (k .pieces)))))
+      (both-zero _ _ (unless-holds _ 3 (at-all-below (qOf b) v (rw q (k .key .1)))) (unless-holds _ 3 (rw (q, n, m, ← drawn (w .n) (w .m)) (pieces-below _ _ _ _ (k .pieces)))))
       (both-zero _ _ (unless-holds _ 4 (le-leb unanswered 2 (k .unanswered-value)))
       (both-zero _ _ (unless-holds _ 4 (le-leb challenge 2 (k .challenge-value))) (unless-holds _ 4 (ap not (ne-eqb unanswered challenge (λ e. k .other (sym e)))))))))
 
@@ -116,11 +119,12 @@ module _ (b v : List ℕ) (unanswered challenge : ℕ) (lent : List ℕ) (commit
       let k = taken b v unanswered challenge lent commitments reply none in
       let w = well-formed b (k .good) in
       let lengths = first-zero _ _ (later-zero _ _ none) in
-      let long = equal-holds (length lent) (nOf b + nOf b + nOf b + mOf b + 96) 2 tt (later-zero _ _ (first-zero _ _ lengths)) in
+      let long = equal-holds (length lent) (nOf b + (nOf b + nOf b + mOf b) + 96) 2 tt (later-zero _ _ (first-zero _ _ lengths)) in
+      let below = subst (λ (j : ℕ). allBelow (qOf b) (take j lent) ≡ true) (sym (drawn (nOf b) (mOf b))) (k .lent-elements) in
       record {
         system = w;
         key = (k .key-length ∙ m-is b w, rw (q-is b w) at (all-below-at (qOf b) v (k .key-elements)));
-        pieces = rw (q-is b w, n-is b w, m-is b w) at (lent-pieces (qOf b) (nOf b) (mOf b) lent long (k .lent-elements));
+        pieces = rw (q-is b w, n-is b w, m-is b w) at (lent-pieces (qOf b) (nOf b) (mOf b) lent (omega (arith, long)) below);
         commitments-length = k .commitments-room;
         reply-length = omega (arith, k .reply-room, n-is b w, m-is b w);
         unanswered-value = k .unanswered-value;

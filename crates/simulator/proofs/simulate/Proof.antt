@@ -28,18 +28,19 @@ simulate-spec =
     (λ c κs. search needs)
     (λ c κs. taken _ _ _ _ _ _ _ (none (c .before .before .before .before)) .good)
     (λ c κs. search needs)
-    (λ c κs. taken _ _ _ _ _ _ _ (none (c .before .before .before .before .before .before .before)) .commitments-room)
+    (λ c κs. search needs)
+    (λ c κs. taken _ _ _ _ _ _ _ (none (c .before .before .before .before .before .before .before .before)) .commitments-room)
     (λ c κs. search needs)
     (λ c κs.
-    let k = taken _ _ _ _ _ _ _ (none (c .before .before .before .before .before .before .before .before .before .before .before .before)) in
+    let k = taken _ _ _ _ _ _ _ (none (c .before .before .before .before .before .before .before .before .before .before .before .before .before)) in
     let good = accepted _ (k .good) in
-    let n = c .before .before .before .before .before .before .before .before .before .before .before .byte-at .ensures in
-    let m = c .before .before .before .before .before .before .before .before .before .before .byte-at2 .ensures in
+    let n = c .before .before .before .before .before .before .before .before .before .before .before .before .byte-at .ensures in
+    let m = c .before .before .before .before .before .before .before .before .before .before .before .byte-at2 .ensures in
     (rw n (good .n-high), rw m (good .m-high), simp (n, m) (k .reply-room)))
     (λ c. search needs)
     (λ c. search needs)
     (λ c. (
-      sym (none (c .before .before .before .before .before .before .before .before .before .before .before .before .before .before .before)),
-      simp (c .before .before .before .before .before .before .before .write-commitments .ensures, c .before .before .before .before .before .before .before .before .before .commitments-three .ensures, c .before .before .before .before .before .before .before .before .before .before .lent-vectors .ensures, c .before .before .before .before .before .before .before .before .before .before .before .before .lent-behind .ensures, c .before .before .before .before .before .before .before .before .before .before .before .before .before .byte-at2 .ensures, c .before .before .before .before .before .before .before .before .before .before .before .before .before .before .byte-at .ensures),
-      simp (c .before .before .write-reply-three .ensures, c .before .before .before .before .reply-three .ensures, c .before .before .before .before .before .before .before .before .before .before .lent-vectors .ensures, c .before .before .before .before .before .before .before .before .before .before .before .before .lent-behind .ensures, c .before .before .before .before .before .before .before .before .before .before .before .before .before .byte-at2 .ensures, c .before .before .before .before .before .before .before .before .before .before .before .before .before .before .byte-at .ensures),
+      sym (none (c .before .before .before .before .before .before .before .before .before .before .before .before .before .before .before .before)),
+      simp (c .before .before .before .before .before .before .before .write-three-commitments .ensures, c .before .before .before .before .before .before .before .before .before .commitments-three .ensures, c .before .before .before .before .before .before .before .before .before .before .simulator-domain .ensures, c .before .before .before .before .before .before .before .before .before .before .before .lent-vectors .ensures, c .before .before .before .before .before .before .before .before .before .before .before .before .before .lent-behind .ensures, c .before .before .before .before .before .before .before .before .before .before .before .before .before .before .byte-at2 .ensures, c .before .before .before .before .before .before .before .before .before .before .before .before .before .before .before .byte-at .ensures),
+      simp (c .before .before .write-reply-three .ensures, c .before .before .before .before .reply-three .ensures, c .before .before .before .before .before .before .before .before .before .before .before .lent-vectors .ensures, c .before .before .before .before .before .before .before .before .before .before .before .before .before .lent-behind .ensures, c .before .before .before .before .before .before .before .before .before .before .before .before .before .before .byte-at2 .ensures, c .before .before .before .before .before .before .before .before .before .before .before .before .before .before .before .byte-at .ensures),
     )))
