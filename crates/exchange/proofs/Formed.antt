@@ -3,11 +3,9 @@ use Prim.Native.Nat.{ℕ, _+_, _≤_, _<_}
 use mathlib.Core.Path.{_≡_}
 use mathlib.Core.Bool.{true}
 use mathlib.Core.List.{List}
-use native.Mathlib.Nat.{lt-of-not-le}
-use native.Mathlib.Decide.{decLe}
 use native.Mathlib.Omega.{arith}
 use lib.Dec.{eqb}
-use lib.ListN.{length, take, drop, length-take, List·getD-eq-default}
+use lib.ListN.{length, take, drop, length-take}
 use lib.Seq.{getD-take, getD-drop}
 use Rattle.slices.proofs.Booleans.{either}
 use Rattle.slices.specs.Slices.{_!_}
@@ -18,7 +16,8 @@ use Rattle.sha256.proofs.DigestBytes.{length-sha256}
 use Rattle.commitment.specs.declared.Domain.{Domain}
 use Rattle.commitment.specs.Commitment.{Com}
 use Rattle.system.specs.System.{qOf, nOf, mOf, opsOf, systemRefusal}
-use Rattle.system.proofs.SystemLayout.{accepted, all-below-at, at-all-below}
+use Rattle.field.proofs.Elements.{all-below-at, at-all-below, everywhere}
+use Rattle.system.proofs.SystemLayout.{accepted}
 use Rattle.protocol.specs.Protocols as P
 use Rattle.protocol.specs.Protocols.{AreElements}
 use Rattle.protocol.specs.Rounds.{IsX, IsY}
@@ -32,11 +31,7 @@ use Rattle.exchange.proofs.ReadBack.{AreThree, AreTwo, IsReplyThree}
 -- the first k of a list are elements; beyond the list's end there is the element 0
 front-below : (q k : ℕ) (l : List ℕ) → 0 < q → allBelow q (take k l) ≡ true → (i : ℕ) → i < k → l ! i < q
 front-below q k l pos below i h =
-    rw (← getD-take k l i 0 h)
-    (elim (decLe (length (take k l)) i) [
-      | yes beyond ↦ rw (List·getD-eq-default (take k l) 0 beyond) pos
-      | no within ↦ all-below-at q (take k l) below i (lt-of-not-le within)
-    ])
+    rw (← getD-take k l i 0 h) (everywhere q (take k l) pos (all-below-at q (take k l) below) i)
 
 -- ---- vectors
 

@@ -2,7 +2,7 @@
 use Prim.Native.Nat.{ℕ, zero, suc, _<_}
 use mathlib.Core.Path.{_≡_, refl}
 use mathlib.Core.Bool.{true}
-use mathlib.Core.List.{List, [], _∷_}
+use mathlib.Core.List.{List, [], _∷_, _++_}
 use native.Mathlib.Nat.{not-suc-le-zero, le-of-suc-le-suc, lt-of-not-le}
 use native.Mathlib.Decide.{decLe}
 use native.Mathlib.Omega.{arith}
@@ -24,6 +24,12 @@ unfolding allBelow
 at-all-below q [] each = refl
 at-all-below q (x ∷ s) each =
     rw (lt-ltb x q (each 0 (omega arith)), at-all-below q s (λ i h. each (suc i) (omega arith)))
+
+pub below-append : (q : ℕ) (s t : List ℕ) → allBelow q s ≡ true → allBelow q t ≡ true → allBelow q (s ++ t) ≡ true
+unfolding allBelow
+below-append q [] t hs ht = ht
+below-append q (x ∷ s) t hs ht =
+    rw (and-left (ltb x q) (allBelow q s) hs, below-append q s t (and-right (ltb x q) (allBelow q s) hs) ht)
 
 -- beyond the end there is 0, an element too
 pub everywhere : (q : ℕ) (s : List ℕ) → 0 < q → Elements q s → (i : ℕ) → s ! i < q
