@@ -13,34 +13,34 @@ use Rattle.commitment.specs.declared.Text.{Text}
 use Rattle.commitment.specs.Commitment.{longest}
 use Rattle.commitment.specs.Texts.{zeroBeyond, text, content, Room, TextOf}
 
-pub length-zero-beyond : (l : List ℕ) → length (zeroBeyond l) ≡ 322
+pub length-zero-beyond : (l : List ℕ) → length (zeroBeyond l) ≡ longest
 unfolding zeroBeyond
-length-zero-beyond l = length-tabulate 322 _
+length-zero-beyond l = length-tabulate longest _
 
-zero-beyond-at : (l : List ℕ) (i : ℕ) → i < 322 → zeroBeyond l ! i ≡ l ! i
+zero-beyond-at : (l : List ℕ) (i : ℕ) → i < longest → zeroBeyond l ! i ≡ l ! i
 unfolding zeroBeyond
-zero-beyond-at l i h = tabulate-at 322 _ i h
+zero-beyond-at l i h = tabulate-at longest _ i h
 
-front : (l : List ℕ) → length l ≤ 322 → length (take (length l) (zeroBeyond l)) ≡ length l
-front l room = length-take-le (length l) (zeroBeyond l) (rw (length-zero-beyond l) room)
+start-length : (l : List ℕ) → length l ≤ longest → length (take (length l) (zeroBeyond l)) ≡ length l
+start-length l room = length-take-le (length l) (zeroBeyond l) (rw (length-zero-beyond l) room)
 
 -- ---- s put behind l: what stands before it, in it and after it
 
-before : (l s t : List ℕ) (i : ℕ) → length l ≤ 322 → i < length l → (take (length l) (zeroBeyond l) ++ t) ! i ≡ (l ++ s) ! i
+before : (l s t : List ℕ) (i : ℕ) → length l ≤ longest → i < length l → (take (length l) (zeroBeyond l) ++ t) ! i ≡ (l ++ s) ! i
 before l s t i room h =
-    List·getD-append (take (length l) (zeroBeyond l)) t 0 i (rw (front l room) h) ∙ getD-take (length l) (zeroBeyond l) i 0 h ∙ zero-beyond-at l i (omega arith) ∙
+    List·getD-append (take (length l) (zeroBeyond l)) t 0 i (rw (start-length l room) h) ∙ getD-take (length l) (zeroBeyond l) i 0 h ∙ zero-beyond-at l i (omega arith) ∙
     sym (List·getD-append l s 0 i h)
 
-inside : (l s t : List ℕ) (j : ℕ) → length l ≤ 322 → j < length s → (take (length l) (zeroBeyond l) ++ (s ++ t)) ! (length l + j) ≡ (l ++ s) ! (length l + j)
+inside : (l s t : List ℕ) (j : ℕ) → length l ≤ longest → j < length s → (take (length l) (zeroBeyond l) ++ (s ++ t)) ! (length l + j) ≡ (l ++ s) ! (length l + j)
 inside l s t j room h =
-    ap (λ (n : ℕ). (take (length l) (zeroBeyond l) ++ (s ++ t)) ! (n + j)) (sym (front l room)) ∙ getD-append-add (take (length l) (zeroBeyond l)) (s ++ t) j 0 ∙
+    ap (λ (n : ℕ). (take (length l) (zeroBeyond l) ++ (s ++ t)) ! (n + j)) (sym (start-length l room)) ∙ getD-append-add (take (length l) (zeroBeyond l)) (s ++ t) j 0 ∙
     List·getD-append s t 0 j h ∙
     sym (getD-append-add l s j 0)
 
-after : (l s : List ℕ) (j : ℕ) → length l + (length s + j) < 322 →
+after : (l s : List ℕ) (j : ℕ) → length l + (length s + j) < longest →
     (take (length l) (zeroBeyond l) ++ (s ++ drop (length l + length s) (zeroBeyond l))) ! (length l + (length s + j)) ≡ (l ++ s) ! (length l + (length s + j))
 after l s j h =
-    ap (λ (n : ℕ). (take (length l) (zeroBeyond l) ++ (s ++ drop (length l + length s) (zeroBeyond l))) ! (n + (length s + j))) (sym (front l (omega arith))) ∙
+    ap (λ (n : ℕ). (take (length l) (zeroBeyond l) ++ (s ++ drop (length l + length s) (zeroBeyond l))) ! (n + (length s + j))) (sym (start-length l (omega arith))) ∙
     getD-append-add (take (length l) (zeroBeyond l)) _ (length s + j) 0 ∙
     getD-append-add s _ j 0 ∙
     getD-drop (length l + length s) (zeroBeyond l) j 0 ∙
@@ -51,7 +51,7 @@ after l s j h =
     long : length (l ++ s) ≤ length l + (length s + j)
     long = simp length-append (omega arith)
 
-put-at : (l s : List ℕ) (i : ℕ) → length l + length s ≤ 322 → i < 322 →
+put-at : (l s : List ℕ) (i : ℕ) → length l + length s ≤ longest → i < longest →
     (take (length l) (zeroBeyond l) ++ (s ++ drop (length l + length s) (zeroBeyond l))) ! i ≡ (l ++ s) ! i
 put-at l s i room h =
     elim (decLe (length l) i) [
@@ -67,28 +67,28 @@ put-at l s i room h =
           ]
     ]
 
-joined : (l s : List ℕ) → length l + length s ≤ 322 → take (length l) (zeroBeyond l) ++ (s ++ drop (length l + length s) (zeroBeyond l)) ≡ zeroBeyond (l ++ s)
+joined : (l s : List ℕ) → length l + length s ≤ longest → take (length l) (zeroBeyond l) ++ (s ++ drop (length l + length s) (zeroBeyond l)) ≡ zeroBeyond (l ++ s)
 unfolding zeroBeyond
-joined l s room = tabulate-of _ 322 (λ i. (l ++ s) ! i) long (λ i h. put-at l s i room h)
+joined l s room = tabulate-of _ longest (λ i. (l ++ s) ! i) long (λ i h. put-at l s i room h)
   where
-    long : length (take (length l) (zeroBeyond l) ++ (s ++ drop (length l + length s) (zeroBeyond l))) ≡ 322
-    long = simp (length-append, front l (omega arith), length-drop, length-zero-beyond) (omega arith)
+    long : length (take (length l) (zeroBeyond l) ++ (s ++ drop (length l + length s) (zeroBeyond l))) ≡ longest
+    long = simp (length-append, start-length l (omega arith), length-drop, length-zero-beyond) (omega arith)
 
 -- a string grows by what is put behind it
-pub text-put : (l s bytes r : List ℕ) (at : ℕ) → bytes ≡ zeroBeyond l → length l ≡ at → at + length s ≤ 322 →
+pub text-put : (l s bytes r : List ℕ) (at : ℕ) → bytes ≡ zeroBeyond l → length l ≡ at → at + length s ≤ longest →
     r ≡ take at bytes ++ (s ++ drop (at + length s) bytes) → r ≡ zeroBeyond (l ++ s)
 text-put l s bytes r at e here room er = er ∙ rw (e, ← here) (joined l s (rw (← here) at room))
 
 -- a string starts with two bytes
-pub text-start : (a b : ℕ) → set (set (replicate 322 0) 0 a) 1 b ≡ zeroBeyond (a ∷ b ∷ [])
+pub text-start : (a b : ℕ) → set (set (replicate longest 0) 0 a) 1 b ≡ zeroBeyond (a ∷ b ∷ [])
 unfolding zeroBeyond tabulate
 text-start a b = refl
 
 -- what is held is read back
-pub take-back : (l : List ℕ) → length l ≤ 322 → take (length l) (zeroBeyond l) ≡ l
+pub take-back : (l : List ℕ) → length l ≤ longest → take (length l) (zeroBeyond l) ≡ l
 take-back l room =
-    ext-getD 0 (take (length l) (zeroBeyond l)) l (front l room) (λ i h.
-    let below : i < length l = rw (front l room) at h in
+    ext-getD 0 (take (length l) (zeroBeyond l)) l (start-length l room) (λ i h.
+    let below : i < length l = rw (start-length l room) at h in
     getD-take (length l) (zeroBeyond l) i 0 below ∙ zero-beyond-at l i (omega arith))
 
 -- a vector contributes no more than its 96 bytes

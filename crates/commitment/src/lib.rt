@@ -6,7 +6,7 @@ use scheme::Scheme;
 use scheme::byte_of;
 ghost use mathlib.Core.Path.{_≡_};
 ghost use Prim.Native.Nat.{_+_, _≤_};
-ghost use mathlib.Core.List.{_++_};
+ghost use mathlib.Core.List.{[], _++_};
 ghost use lib.ListN.{length, take, drop};
 ghost use Rattle.sha256.specs.Sha256.{sha256};
 ghost use Rattle.commitment.specs.Commitment.{prefix, hashedString, Com, vectorsAt, longest};
@@ -21,6 +21,16 @@ pub struct Domain {
 pub struct Text {
     pub bytes: [u8; 322],
     pub len: usize,
+}
+
+// The empty string.
+pub fn empty() -> Text
+    ensures { λ r. ⌜ TextOf [] 3 r ⌝ }
+{
+    Text {
+        bytes: [0; 322],
+        len: 0,
+    }
 }
 
 // Where the vectors stand in a string: behind the domain, the number and ρ.
@@ -51,7 +61,7 @@ fn start(d: Domain, k: u8, rho: [u8; 32]) -> Text
     bytes[1] = k;
     Text {
         bytes: put(bytes, 2, &rho),
-        len: 34,
+        len: vectors_at(d),
     }
 }
 

@@ -29,9 +29,8 @@ use Rattle.exchange.specs.Messages.{lentIn}
 use Rattle.exchange.proofs.ReadBack.{AreThree, AreTwo, IsReplyThree}
 
 -- the first k of a list are elements; beyond the list's end there is the element 0
-front-below : (q k : ℕ) (l : List ℕ) → 0 < q → allBelow q (take k l) ≡ true → (i : ℕ) → i < k → l ! i < q
-front-below q k l pos below i h =
-    rw (← getD-take k l i 0 h) (everywhere q (take k l) pos (all-below-at q (take k l) below) i)
+first-below : (q k : ℕ) (l : List ℕ) → 0 < q → allBelow q (take k l) ≡ true → (i : ℕ) → i < k → l ! i < q
+first-below q k l pos below i h = rw (← getD-take k l i 0 h) (everywhere q (take k l) pos (all-below-at q (take k l) below) i)
 
 -- ---- vectors
 
@@ -49,25 +48,25 @@ module _ (b : List ℕ) (good : systemRefusal b ≡ 0) where
   pub size-is : opsOf b .size ≡ qOf b
   size-is = size-of (qOf b) (accepted b good .is-field)
 
-  -- a list of n elements, held as a vector
-  pub held-is : (n : ℕ) (l : List ℕ) → length l ≡ n → allBelow (qOf b) l ≡ true → IsVector (opsOf b) n (asVector l)
-  held-is n l long below = rw long (is-vector (opsOf b) (ring (qOf b)) n _ (λ i h. rw size-is (all-below-at (qOf b) l below i (rw long h))))
+  -- a list of n elements as a vector
+  pub as-vector-is : (n : ℕ) (l : List ℕ) → length l ≡ n → allBelow (qOf b) l ≡ true → IsVector (opsOf b) n (asVector l)
+  as-vector-is n l long below = rw long (is-vector (opsOf b) (ring (qOf b)) n _ (λ i h. rw size-is (all-below-at (qOf b) l below i (rw long h))))
 
   -- n places among the first k, which are elements
   pub slot-is : (n place k : ℕ) (l : List ℕ) → place + n ≤ k → allBelow (qOf b) (take k l) ≡ true → IsVector (opsOf b) n (slotV n place l)
   unfolding slotV
   slot-is n place k l room below =
       is-vector (opsOf b) (ring (qOf b)) n _ (λ i h.
-      front-below (opsOf b .size) k l (ring (qOf b) .zero-below) (rw size-is below) (place + i) (omega arith))
+      first-below (opsOf b .size) k l (ring (qOf b) .zero-below) (rw size-is below) (place + i) (omega arith))
 
   pub lent-is : (lent : List ℕ) → Lends b lent → LentIs b lent
   unfolding lentIn
   lent-is lent h =
-      let front = nOf b + nOf b + mOf b in
+      let drawn = nOf b + nOf b + mOf b in
       record {
-        r0-is = slot-is (nOf b) 0 front lent (omega arith) h;
-        t0-is = slot-is (nOf b) (nOf b) front lent (omega arith) h;
-        e0-is = slot-is (mOf b) (nOf b + nOf b) front lent (omega arith) h;
+        r0-is = slot-is (nOf b) 0 drawn lent (omega arith) h;
+        t0-is = slot-is (nOf b) (nOf b) drawn lent (omega arith) h;
+        e0-is = slot-is (mOf b) (nOf b + nOf b) drawn lent (omega arith) h;
       }
 
   -- what is lent behind n other elements
@@ -75,7 +74,7 @@ module _ (b : List ℕ) (good : systemRefusal b ≡ 0) where
   lends-behind n all l long below =
       at-all-below (qOf b) _ (λ i h.
       let within : i < nOf b + nOf b + mOf b = omega (arith, h, length-take (nOf b + nOf b + mOf b) (drop n l)) in
-      rw (getD-take (nOf b + nOf b + mOf b) (drop n l) i 0 within, getD-drop n l i 0) (front-below (qOf b) all l (rw (← size-is) (ring (qOf b) .zero-below)) below (n + i) (omega arith)))
+      rw (getD-take (nOf b + nOf b + mOf b) (drop n l) i 0 within, getD-drop n l i 0) (first-below (qOf b) all l (rw (← size-is) (ring (qOf b) .zero-below)) below (n + i) (omega arith)))
 
 -- ---- commitments
 

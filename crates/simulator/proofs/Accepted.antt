@@ -16,7 +16,7 @@ use Rattle.round.specs.ThreePass.{replyThree}
 use Rattle.round.proofs.Acceptance.{accepted-simulated}
 use Rattle.exchange.specs.Messages.{lentIn, openings, accepts}
 use Rattle.exchange.proofs.ReadBack.{IsReplyThree, length-bytes, length-three-commitments, three-at, reply-three-length, reply-three-back}
-use Rattle.exchange.proofs.Formed.{LentIs, held-is, slot-is, lent-is, lends-behind, are-three, replied-is}
+use Rattle.exchange.proofs.Formed.{LentIs, as-vector-is, slot-is, lent-is, lends-behind, are-three, replied-is}
 use Rattle.simulator.specs.Simulator.{simulateRefusal, lentBehind, vectorsFrom, vectorsIn, simulatorDomain, simulatedCommitments, simulatedReply}
 use Rattle.simulator.proofs.NotRefused.{Taken, taken}
 
@@ -60,5 +60,5 @@ module _ (b v : List ℕ) (unanswered challenge : ℕ) (lent : List ℕ) (commit
       let a = accepted b (k .good) in
       rw (reply-three-back (opsOf b) (nOf b) (mOf b) _ (a .n-high) (a .m-high) reply-is)
       (accepted-simulated simulatorDomain b (asVector v) (lentBehind (nOf b) (mOf b) lent .rhos) (k .good) unanswered (k .unanswered-value) _ _ _ _
-      (held-is b (k .good) (mOf b) v (k .key-length) (k .key-elements)) s-is (behind-is .r0-is) (behind-is .t0-is) (behind-is .e0-is)
+      (as-vector-is b (k .good) (mOf b) v (k .key-length) (k .key-elements)) s-is (behind-is .r0-is) (behind-is .t0-is) (behind-is .e0-is)
       _ (three-at _ (are-three _ _ _ _ _)) challenge (k .challenge-value) (k .other))
