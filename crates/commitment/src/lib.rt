@@ -9,7 +9,7 @@ ghost use Prim.Native.Nat.{_+_, _≤_};
 ghost use mathlib.Core.List.{[], _++_};
 ghost use lib.ListN.{length, take, drop};
 ghost use Rattle.sha256.specs.Sha256.{sha256};
-ghost use Rattle.commitment.specs.Commitment.{prefix, hashedString, Com, vectorsAt, longest};
+ghost use Rattle.commitment.specs.Commitment.{prefix, hashedString, vectorsAt, longest};
 ghost use Rattle.commitment.specs.Texts.{content, Room, TextOf, Appended};
 
 // What stands in a hashed string before ρ, besides the number of the commitment.
@@ -103,7 +103,7 @@ pub fn string_three(
     append(string_two(d, k, rho, a, na, b, nb), c, nc)
 }
 
-// The digest of a string.
+// The digest of a string: Com of what it is made of.
 pub fn digest(t: Text) -> [u8; 32]
     requires { ⌜ Room 0 t ⌝ }
     ensures { λ r. ⌜ r ≡ sha256 (content t) ⌝ }
@@ -111,36 +111,4 @@ pub fn digest(t: Text) -> [u8; 32]
     let bytes = t.bytes;
     let len = t.len;
     sha256::hash(&bytes[..len])
-}
-
-// Com(k, ρ, a, b).
-pub fn commit_two(
-    d: Domain,
-    k: u8,
-    rho: [u8; 32],
-    a: [u8; 96],
-    na: u8,
-    b: [u8; 96],
-    nb: u8,
-) -> [u8; 32]
-    ensures { λ r. ⌜ r ≡ Com d k rho (take na a ++ take nb b) ⌝ }
-{
-    digest(string_two(d, k, rho, a, na, b, nb))
-}
-
-// Com(k, ρ, a, b, c).
-pub fn commit_three(
-    d: Domain,
-    k: u8,
-    rho: [u8; 32],
-    a: [u8; 96],
-    na: u8,
-    b: [u8; 96],
-    nb: u8,
-    c: [u8; 96],
-    nc: u8,
-) -> [u8; 32]
-    ensures { λ r. ⌜ r ≡ Com d k rho (take na a ++ (take nb b ++ take nc c)) ⌝ }
-{
-    digest(string_three(d, k, rho, a, na, b, nb, c, nc))
 }

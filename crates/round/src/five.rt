@@ -6,8 +6,7 @@ use crate::pieces::ReplyFive;
 use crate::pieces::Rhos;
 use commitment::Domain;
 use commitment::Text;
-use commitment::commit_three;
-use commitment::commit_two;
+use commitment::digest;
 use commitment::string_three;
 use commitment::string_two;
 use field::add_vectors;
@@ -45,8 +44,8 @@ pub fn commitments_five(
     let r1 = r1_of(q, n, s, r0);
     let mask = add_vectors(q, m, g(system, t0, r1), e0);
     CommitmentsFive {
-        c0: commit_three(d, 0, rho0, r0, n, t0, n, e0, m),
-        c1: commit_two(d, 1, rho1, r1, n, mask, m),
+        c0: digest(string_three(d, 0, rho0, r0, n, t0, n, e0, m)),
+        c1: digest(string_two(d, 1, rho1, r1, n, mask, m)),
     }
 }
 

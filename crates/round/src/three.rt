@@ -6,7 +6,7 @@ use crate::pieces::Rhos;
 use crate::pieces::Vectors;
 use commitment::Domain;
 use commitment::Text;
-use commitment::commit_two;
+use commitment::digest;
 use commitment::string_two;
 use field::add_vectors;
 use field::sub_vectors;
@@ -17,7 +17,7 @@ ghost use Prim.Native.Nat.{ℕ};
 ghost use mathlib.Core.Path.{_≡_};
 ghost use mathlib.Core.List.{List};
 ghost use Rattle.system.specs.System.{systemRefusal};
-ghost use Rattle.commitment.specs.Texts.{TextOf};
+ghost use Rattle.commitment.specs.Texts.{Room, TextOf};
 ghost use Rattle.round.specs.declared.pieces.ReplyThree.{ReplyThree as ReplyThree·};
 ghost use Rattle.round.specs.Pieces.{vectorsOf};
 ghost use Rattle.round.specs.Openings.{stringOf, openingAt};
@@ -37,9 +37,9 @@ pub fn commitments_three(d: Domain, n: u8, m: u8, w: Vectors, rhos: Rhos) -> Com
     let rho1 = rhos.rho1;
     let rho2 = rhos.rho2;
     CommitmentsThree {
-        c0: commit_two(d, 0, rho0, r1, n, mask, m),
-        c1: commit_two(d, 1, rho1, t0, n, e0, m),
-        c2: commit_two(d, 2, rho2, t1, n, e1, m),
+        c0: digest(string_two(d, 0, rho0, r1, n, mask, m)),
+        c1: digest(string_two(d, 1, rho1, t0, n, e0, m)),
+        c2: digest(string_two(d, 2, rho2, t1, n, e1, m)),
     }
 }
 
@@ -125,7 +125,7 @@ pub fn first_opening(
 
 // The string of the second opening, whatever v: of c1 for challenge 2, else of c2.
 pub fn second_opening(system: &[u8], d: Domain, challenge: u8, reply: ReplyThree) -> Text
-    ensures { λ t. ⌜ ((v : List ℕ) → TextOf (stringOf d (openingAt (openingsThree (now (system .entry)) v challenge reply) 1)) 1 t) ⌝ }
+    ensures { λ t. ⌜ Room 1 t × ((v : List ℕ) → TextOf (stringOf d (openingAt (openingsThree (now (system .entry)) v challenge reply) 1)) 1 t) ⌝ }
 {
     let n = byte_at(system, 1);
     let m = byte_at(system, 2);
