@@ -1,8 +1,8 @@
 -- Each arm knows the number, and the last that it is none of them. Assumes nothing.
 use borrow.Author.Tests.{ne-eqb}
-use Rattle.bench_entries.specs.Refused.{carrierPhase}
-use Rattle.bench_entries.proofs.refused.carrier_phase.Statement.{statement}
-use Rattle.bench_entries.proofs.refused.carrier_phase.Tie as tie
+use Rattle.bench_refused.specs.Refused.{carrierPhase}
+use Rattle.bench_refused.proofs.carrier_phase.Statement.{statement}
+use Rattle.bench_refused.proofs.carrier_phase.Tie as tie
 
 pub carrier-phase-spec : {M : Type 1} → statement M
 unfolding carrierPhase

@@ -1,8 +1,8 @@
 -- Each arm knows the number, and the last that it is none of them. Assumes nothing.
 use borrow.Author.Tests.{ne-eqb}
-use Rattle.bench_entries.specs.Refused.{cardPhase}
-use Rattle.bench_entries.proofs.refused.card_phase.Statement.{statement}
-use Rattle.bench_entries.proofs.refused.card_phase.Tie as tie
+use Rattle.bench_refused.specs.Refused.{cardPhase}
+use Rattle.bench_refused.proofs.card_phase.Statement.{statement}
+use Rattle.bench_refused.proofs.card_phase.Tie as tie
 
 pub card-phase-spec : {M : Type 1} → statement M
 unfolding cardPhase

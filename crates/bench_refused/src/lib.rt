@@ -1,5 +1,8 @@
-// Calls on a session of which only the phase is told, all else zero, with a system lent: what a call takes that is refused
-// because of the state. Nothing is opened, so that no time is spent on anything else.
+// What the benchmarks in bench/ call to time refused calls, under C names: a call on a session of which only the phase is told,
+// all else zero. Nothing is opened, so that no time is spent on anything else.
+//
+// Nothing here is part of the product. These are not among `bench_entries`, whose archive would then have two callers of each
+// call, and its calls of a round would no longer be one function, whose stack use is measured.
 use card_state::Card;
 use card_state::CardPhase;
 use card_state::card_with;
@@ -15,7 +18,7 @@ ghost use lib.ListN.{length};
 ghost use Rattle.refusal.specs.Refusal.{kept};
 ghost use Rattle.card_state.specs.Card.{commitRefusal, sentCommitments, alphaRefusal, sentMiddle};
 ghost use Rattle.carrier_state.specs.Carrier.{replyRefusal};
-ghost use Rattle.bench_entries.specs.Refused.{cardPhase, cardIn, carrierPhase, carrierIn};
+ghost use Rattle.bench_refused.specs.Refused.{cardPhase, cardIn, carrierPhase, carrierIn};
 
 // A card's phase by its number.
 fn card_phase(number: u8) -> CardPhase

@@ -5,8 +5,8 @@ use Rattle.refusal.specs.Refusal.{kept}
 use Rattle.card_state.specs.declared.session.Card.{Card}
 use Rattle.card_state.specs.Card.{commitRefusal, sentCommitments}
 use borrow.Author.Needs.{needs}
-use Rattle.bench_entries.proofs.refused.bench_commit.Statement.{statement}
-use Rattle.bench_entries.proofs.refused.bench_commit.Tie as tie
+use Rattle.bench_refused.proofs.bench_commit.Statement.{statement}
+use Rattle.bench_refused.proofs.bench_commit.Tie as tie
 
 pub bench-commit-spec : {M : Type 1} → statement M
 bench-commit-spec =

@@ -1,9 +1,9 @@
 -- A closed session in another phase. Assumes nothing.
 use Rattle.slices.specs.Slices.{zeros}
 use borrow.Author.Needs.{needs}
-use Rattle.bench_entries.specs.Refused.{cardIn}
-use Rattle.bench_entries.proofs.refused.card_in.Statement.{statement}
-use Rattle.bench_entries.proofs.refused.card_in.Tie as tie
+use Rattle.bench_refused.specs.Refused.{cardIn}
+use Rattle.bench_refused.proofs.card_in.Statement.{statement}
+use Rattle.bench_refused.proofs.card_in.Tie as tie
 
 pub card-in-spec : {M : Type 1} → statement M
 unfolding cardIn zeros

@@ -9,7 +9,8 @@ use Rattle.card_state.specs.declared.session.CardPhase.the-variants.{Commit, An
 use Rattle.card_state.specs.declared.session.Card.{Card}
 use Rattle.card_state.specs.Card.{closedCard, cardWith, noLent}
 use Rattle.carrier_state.specs.declared.session.CarrierPhase.{CarrierPhase}
-use Rattle.carrier_state.specs.declared.session.CarrierPhase.the-variants.{TakeCommitments, SetAlpha, TakeMiddle, SetChallenge, TakeReply, Closed as ClosedCarrier}
+use Rattle.carrier_state.specs.declared.session.CarrierPhase.the-variants.{TakeCommitments, SetAlpha, TakeMiddle, SetChallenge, TakeReply}
+use Rattle.carrier_state.specs.declared.session.CarrierPhase.the-variants.{Closed as ClosedCarrier}
 use Rattle.carrier_state.specs.declared.session.Carrier.{Carrier}
 use Rattle.carrier_state.specs.Carrier.{closedCarrier, carrierWith}
 

@@ -5,8 +5,8 @@ use Rattle.refusal.specs.Refusal.{kept}
 use Rattle.card_state.specs.declared.session.Card.{Card}
 use Rattle.card_state.specs.Card.{alphaRefusal, sentMiddle}
 use borrow.Author.Needs.{needs}
-use Rattle.bench_entries.proofs.refused.bench_answer_alpha.Statement.{statement}
-use Rattle.bench_entries.proofs.refused.bench_answer_alpha.Tie as tie
+use Rattle.bench_refused.proofs.bench_answer_alpha.Statement.{statement}
+use Rattle.bench_refused.proofs.bench_answer_alpha.Tie as tie
 
 pub bench-answer-alpha-spec : {M : Type 1} → statement M
 bench-answer-alpha-spec =

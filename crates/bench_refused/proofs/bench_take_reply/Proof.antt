@@ -3,8 +3,8 @@ use mathlib.Core.Path.{ap, _∙_}
 use Rattle.carrier_state.specs.declared.session.Carrier.{Carrier}
 use Rattle.carrier_state.specs.Carrier.{replyRefusal}
 use borrow.Author.Needs.{needs}
-use Rattle.bench_entries.proofs.refused.bench_take_reply.Statement.{statement}
-use Rattle.bench_entries.proofs.refused.bench_take_reply.Tie as tie
+use Rattle.bench_refused.proofs.bench_take_reply.Statement.{statement}
+use Rattle.bench_refused.proofs.bench_take_reply.Tie as tie
 
 pub bench-take-reply-spec : {M : Type 1} → statement M
 bench-take-reply-spec =
