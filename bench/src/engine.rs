@@ -1,5 +1,5 @@
-//! The proved engine: the C interface by its Rust crate, and what that lacks by the functions of the crate `bench_entries`. A slice
-//! is passed as its address and its length, one after the other.
+//! The proved engine: the C interface by its Rust crate, and what that lacks by the functions of the crates `bench_entries` and
+//! `bench_refused`. A slice is passed as its address and its length, one after the other.
 
 pub use canvasfox::slices::{evaluate, polar, record_read, report, sha256, simulate, system_check};
 use canvasfox::{slices, FINDING};

@@ -6,6 +6,7 @@ use native.Mathlib.Omega.{arith}
 use lib.ListN.{length, take, drop, length-take}
 use Rattle.slices.specs.Slices.{placed}
 use Rattle.text.proofs.Appending.{Appended}
+use Rattle.commitment.specs.Texts.{content}
 use Rattle.auditing.specs.declared.Finding.{Finding}
 use Rattle.auditing.specs.declared.Finding.the-variants.{Secret, Clash, Refused}
 use Rattle.auditing.specs.declared.Audited.{Audited}
@@ -38,7 +39,7 @@ unfolding outcomeBy auditText
 secret-text r n e = by-finding r n Secret e
 
 pub clash-text : (r : Audited) (n k : ℕ) → r .finding ≡ Clash k →
-    clashLines k (take (r .first .len) (r .first .bytes)) (take (r .second .len) (r .second .bytes)) ≡ auditText n (outcomeOf r)
+    clashLines k (content (r .first)) (content (r .second)) ≡ auditText n (outcomeOf r)
 unfolding outcomeBy auditText
 clash-text r n k e = by-finding r n (Clash k) e
 

@@ -17,6 +17,8 @@ ghost use mathlib.Core.Path.{_≡_};
 ghost use Prim.Native.Nat.{_+_, _*_, _≤_};
 ghost use lib.ListN.{length, take};
 ghost use Rattle.slices.specs.Slices.{placed};
+ghost use Rattle.commitment.specs.Commitment.{longest};
+ghost use Rattle.commitment.specs.Texts.{content};
 ghost use Rattle.auditing.specs.Outcome.{outcomeOf};
 ghost use Rattle.audit_lines.specs.AuditLines.{hexLine, clashLines, rejectedLine, refusalLine, auditText, threeText, fiveText};
 
@@ -32,7 +34,7 @@ fn hex_line(text: &mut [u8], at: usize, word: &[u8], s: &[u8]) -> usize
 
 // `clash 1`, then a line for each string.
 fn clash_lines(text: &mut [u8], k: u8, first: &[u8], second: &[u8]) -> usize
-    requires { ⌜ (length (now text) ≡ 2048) × (length (now first) ≤ 322) × (length (now second) ≤ 322) ⌝ }
+    requires { ⌜ (length (now text) ≡ 2048) × (length (now first) ≤ longest) × (length (now second) ≤ longest) ⌝ }
     ensures { λ r. ⌜ (now (text .exit) ≡ placed (now (text .entry)) 0 (clashLines k (now (first .entry)) (now (second .entry)))) × (r ≡ length (clashLines k (now (first .entry)) (now (second .entry)))) × (r ≤ 2048) ⌝ }
 {
     let next = append_number(text, 0, b"clash ", k);
@@ -81,7 +83,7 @@ pub fn audit_text(audited: Audited, n: u8, text: &mut [u8]) -> usize
 // The lines of a clash, each string as long as it says.
 fn both_strings(text: &mut [u8], k: u8, first: Text, second: Text) -> usize
     requires { ⌜ length (now text) ≡ 2048 ⌝ }
-    ensures { λ r. ⌜ (now (text .exit) ≡ placed (now (text .entry)) 0 (clashLines k (take (first .len) (first .bytes)) (take (second .len) (second .bytes)))) × (r ≡ length (clashLines k (take (first .len) (first .bytes)) (take (second .len) (second .bytes)))) × (r ≤ 2048) ⌝ }
+    ensures { λ r. ⌜ (now (text .exit) ≡ placed (now (text .entry)) 0 (clashLines k (content first) (content second))) × (r ≡ length (clashLines k (content first) (content second))) × (r ≤ 2048) ⌝ }
 {
     let first_length = first.len;
     let first_bytes = first.bytes;

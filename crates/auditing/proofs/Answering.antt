@@ -1,11 +1,11 @@
 -- Outcomes and the answers that hold them. Assumes nothing.
-use Prim.Native.Nat.{ℕ, _≤_}
+use Prim.Native.Nat.{ℕ}
 use mathlib.Core.Path.{_≡_, refl, ap, ap₂, _∙_}
 use mathlib.Core.List.{List, []}
 use Rattle.slices.specs.Slices.{zeros}
 use Rattle.commitment.specs.declared.Text.{Text}
-use Rattle.commitment.specs.Held.{text}
-use Rattle.commitment.proofs.HeldStrings.{content}
+use Rattle.commitment.specs.Texts.{text, TextOf}
+use Rattle.commitment.proofs.Texts.{content-is}
 use Rattle.auditing.specs.declared.Finding.the-variants.{Secret, Refused}
 use Rattle.auditing.specs.declared.Audited.{Audited}
 use Rattle.auditing.specs.Outcome.{Outcome, secret, clash, refused, clashed, answerOf, outcomeBy, outcomeOf, Answers}
@@ -26,11 +26,10 @@ unfolding answerOf outcomeOf outcomeBy
 answers-secret s t x y is no-first no-second =
     record { is = λ i. record { finding = Secret; secret = is i; first = no-first i; second = no-second i }; says = ap secret is }
 
-pub answers-clash : (r : Audited) (k : ℕ) (x y : Text) (l m : List ℕ) → r ≡ clashed k x y → x ≡ text l → x .len ≤ 322 → y ≡ text m → y .len ≤ 322 →
-    Answers r (clash k l m)
+pub answers-clash : (r : Audited) (k : ℕ) (x y : Text) (l m : List ℕ) → r ≡ clashed k x y → TextOf l 0 x → TextOf m 0 y → Answers r (clash k l m)
 unfolding answerOf outcomeOf outcomeBy clashed
-answers-clash r k x y l m is first first-room second second-room =
+answers-clash r k x y l m is first second =
     record {
-      is = is ∙ ap₂ (clashed k) first second;
-      says = ap outcomeOf is ∙ ap₂ (clash k) (content x l first first-room) (content y m second second-room);
+      is = is ∙ ap₂ (clashed k) (first .is) (second .is);
+      says = ap outcomeOf is ∙ ap₂ (clash k) (content-is l 0 x first) (content-is m 0 y second);
     }

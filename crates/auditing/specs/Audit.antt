@@ -1,17 +1,19 @@
 -- Document 01, "Audit": what an audit answers to a system and records, any bytes at all. One definition serves both schemes; three passes have no fourth record,
--- and the third stands in its place.
+-- and what stands in its place is not looked at (`no-fourth`, auditing/proofs/Outcomes.antt).
 use Prim.Native.Nat.{ℕ, _-_}
 use mathlib.Core.Bool.{cond}
 use mathlib.Core.List.{List}
 use lib.Dec.{eqb}
-use Rattle.comparable.specs.Comparable.{frontRefusal, rejectionOf}
+use Rattle.scheme.specs.declared.Scheme.{Scheme}
+use Rattle.scheme.specs.declared.Scheme.the-variants.{ThreePass, FivePass}
+use Rattle.comparable.specs.Comparable.{comparableRefusal, rejectionOf}
 use Rattle.openings.specs.Openings.{secretOf}
 use Rattle.full_set.specs.FullSet.{answering, firstFull}
 use Rattle.clash.specs.Clash.{leftOpening, rightOpening, firstClash}
 use Rattle.auditing.specs.Outcome.{Outcome, secret, clash, refused}
 
 -- commitment k of round r, opened in two ways
-unfoldable pub clashAt : ℕ → List ℕ → List ℕ → List ℕ → List ℕ → List ℕ → ℕ → ℕ → Outcome
+unfoldable pub clashAt : Scheme → List ℕ → List ℕ → List ℕ → List ℕ → List ℕ → ℕ → ℕ → Outcome
 clashAt scheme system a b c d r k =
     clash k (leftOpening scheme system a b c r k) (rightOpening scheme system a b c d r k)
 
@@ -20,28 +22,28 @@ unfoldable pub secretAt : List ℕ → List ℕ → List ℕ → List ℕ → �
 secretAt system a b c r = secret (secretOf system (answering a b c r 0) (answering a b c r 1) r)
 
 -- "The first pair that differs is the finding .. If none differs, the finding is s"
-unfoldable pub findingAt : ℕ → List ℕ → List ℕ → List ℕ → List ℕ → List ℕ → ℕ → Outcome
+unfoldable pub findingAt : Scheme → List ℕ → List ℕ → List ℕ → List ℕ → List ℕ → ℕ → Outcome
 findingAt scheme system a b c d r =
     let k = firstClash scheme system a b c d r in
     cond (eqb k 0) (secretAt system a b c r) (clashAt scheme system a b c d r (k - 1))
 
 -- "The first such round is used."; 9: "no round with a full set"
-unfoldable pub searchOf : ℕ → List ℕ → List ℕ → List ℕ → List ℕ → List ℕ → Outcome
+unfoldable pub searchOf : Scheme → List ℕ → List ℕ → List ℕ → List ℕ → List ℕ → Outcome
 searchOf scheme system a b c d =
     let round = firstFull scheme a b c d in
     cond (eqb round 0) (refused 9 0 0) (findingAt scheme system a b c d (round - 1))
 
 -- "then 7, 8, 9", after the system and each record; a record and a round are named with 8 alone: "they are 0 in every other answer"
-unfoldable pub auditOf : ℕ → List ℕ → List ℕ → List ℕ → List ℕ → List ℕ → Outcome
+unfoldable pub auditOf : Scheme → List ℕ → List ℕ → List ℕ → List ℕ → List ℕ → Outcome
 auditOf scheme system a b c d =
-    let front = frontRefusal scheme system a b c d in
+    let number = comparableRefusal scheme system a b c d in
     let rejected = rejectionOf scheme system a b c d in
-    cond (eqb front 0) (cond (eqb (rejected .whose) 0) (searchOf scheme system a b c d) (refused 8 (rejected .whose) (rejected .round))) (refused front 0 0)
+    cond (eqb number 0) (cond (eqb (rejected .whose) 0) (searchOf scheme system a b c d) (refused 8 (rejected .whose) (rejected .round))) (refused number 0 0)
 
 -- three records of scheme 3
 unfoldable pub auditThree : List ℕ → List ℕ → List ℕ → List ℕ → Outcome
-auditThree system a b c = auditOf 3 system a b c c
+auditThree system a b c = auditOf ThreePass system a b c c
 
 -- four records of scheme 5
 unfoldable pub auditFive : List ℕ → List ℕ → List ℕ → List ℕ → List ℕ → Outcome
-auditFive system a b c d = auditOf 5 system a b c d
+auditFive system a b c d = auditOf FivePass system a b c d

@@ -2,10 +2,9 @@
 use Prim.Native.Nat.{ℕ}
 use mathlib.Core.Path.{_≡_}
 use mathlib.Core.List.{List, []}
-use lib.ListN.{take}
 use Rattle.slices.specs.Slices.{zeros}
 use Rattle.commitment.specs.declared.Text.{Text}
-use Rattle.commitment.specs.Held.{text}
+use Rattle.commitment.specs.Texts.{text, content}
 use Rattle.auditing.specs.declared.Finding.{Finding}
 use Rattle.auditing.specs.declared.Finding.the-variants.{Secret, Clash, Refused}
 use Rattle.auditing.specs.declared.Audited.{Audited}
@@ -29,7 +28,7 @@ answerOf (refused number whose round) = record { finding = Refused number whose 
 -- this document's number and values for each of the finding's cases
 unfoldable pub outcomeBy : Finding → Audited → Outcome
 outcomeBy Secret r = secret (r .secret)
-outcomeBy (Clash k) r = clash k (take (r .first .len) (r .first .bytes)) (take (r .second .len) (r .second .bytes))
+outcomeBy (Clash k) r = clash k (content (r .first)) (content (r .second))
 outcomeBy (Refused number whose round) r = refused number whose round
 
 unfoldable pub outcomeOf : Audited → Outcome

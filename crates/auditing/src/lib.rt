@@ -5,15 +5,15 @@
 use clash::first_clash;
 use clash::opened_pair;
 use commitment::Text;
+use commitment::empty;
+use comparable::comparable_refusal;
 use comparable::first_rejection;
-use comparable::front_refusal;
 use full_set::answering;
 use full_set::first_full;
 use openings::secret;
+use scheme::Scheme;
 ghost use mathlib.Core.Path.{_≡_};
-ghost use mathlib.Core.List.{[]};
 ghost use Rattle.system.specs.System.{systemRefusal};
-ghost use Rattle.commitment.specs.Held.{text};
 ghost use Rattle.auditing.specs.Outcome.{refused as Outcome·refused, clashed as Outcome·clashed, Answers};
 ghost use Rattle.auditing.specs.Audit.{clashAt, secretAt, searchOf, auditOf, auditThree, auditFive};
 
@@ -31,16 +31,6 @@ pub struct Audited {
     pub secret: [u8; 96],
     pub first: Text,
     pub second: Text,
-}
-
-// The empty string.
-fn empty() -> Text
-    ensures { λ r. ⌜ r ≡ text [] ⌝ }
-{
-    Text {
-        bytes: [0; 322],
-        len: 0,
-    }
 }
 
 // A refusal, with the record and the round that it names.
@@ -83,7 +73,7 @@ fn clashed(k: u8, first: Text, second: Text) -> Audited
 
 // Commitment k of a round, opened in two ways.
 fn clash_at<'a>(
-    scheme: u8,
+    scheme: Scheme,
     system: &'a [u8],
     a: &'a [u8],
     b: &'a [u8],
@@ -103,7 +93,7 @@ fn clash_at<'a>(
 
 // What a search over the rounds finds.
 fn search<'a>(
-    scheme: u8,
+    scheme: Scheme,
     system: &'a [u8],
     a: &'a [u8],
     b: &'a [u8],
@@ -125,9 +115,9 @@ fn search<'a>(
     clash_at(scheme, system, a, b, c, d, r, k - 1)
 }
 
-// The audit of either scheme; scheme 3 has no fourth record, and takes the third in its place.
+// The audit of either scheme; scheme 3 has no fourth record, and `d` is not looked at there.
 fn audit<'a>(
-    scheme: u8,
+    scheme: Scheme,
     system: &'a [u8],
     a: &'a [u8],
     b: &'a [u8],
@@ -136,9 +126,9 @@ fn audit<'a>(
 ) -> Audited
     ensures { λ o. ⌜ Answers o (auditOf scheme (now (system .entry)) (now (a .entry)) (now (b .entry)) (now (c .entry)) (now (d .entry))) ⌝ }
 {
-    let front = front_refusal(scheme, system, a, b, c, d);
-    if front != 0 {
-        return refused(front, 0, 0);
+    let number = comparable_refusal(scheme, system, a, b, c, d);
+    if number != 0 {
+        return refused(number, 0, 0);
     }
     let rejected = first_rejection(scheme, system, a, b, c, d);
     if rejected.whose != 0 {
@@ -151,7 +141,7 @@ fn audit<'a>(
 pub fn audit_three<'a>(system: &'a [u8], a: &'a [u8], b: &'a [u8], c: &'a [u8]) -> Audited
     ensures { λ o. ⌜ Answers o (auditThree (now (system .entry)) (now (a .entry)) (now (b .entry)) (now (c .entry))) ⌝ }
 {
-    audit(3, system, a, b, c, c)
+    audit(Scheme::ThreePass, system, a, b, c, c)
 }
 
 // Audits four records of scheme 5.
@@ -164,5 +154,5 @@ pub fn audit_five<'a>(
 ) -> Audited
     ensures { λ o. ⌜ Answers o (auditFive (now (system .entry)) (now (a .entry)) (now (b .entry)) (now (c .entry)) (now (d .entry))) ⌝ }
 {
-    audit(5, system, a, b, c, d)
+    audit(Scheme::FivePass, system, a, b, c, d)
 }

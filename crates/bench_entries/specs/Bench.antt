@@ -1,17 +1,12 @@
--- What the benchmarks' contracts cite beside the definitions of the functions that they call: a record's header, and a session after each call of one round.
+-- What the benchmarks' contracts cite beside the definitions of the functions that they call: a session after each call of one round.
 use Prim.Native.Nat.{ℕ}
 use mathlib.Core.List.{List}
 use Rattle.refusal.specs.Refusal.{kept}
-use Rattle.record_form.specs.declared.layout.Header.{Header}
 use Rattle.session_state.specs.declared.Verdict.the-variants.{None}
 use Rattle.card_state.specs.declared.session.Card.{Card}
 use Rattle.card_state.specs.Card as C
 use Rattle.carrier_state.specs.declared.session.Carrier.{Carrier}
 use Rattle.carrier_state.specs.Carrier as R
-
--- the header with these values
-abbrev pub headerOf : ℕ → ℕ → ℕ → ℕ → ℕ → Header
-headerOf scheme q n m rounds = record { scheme = scheme; q = q; n = n; m = m; rounds = rounds }
 
 -- ---- the card's session after each call of its one round
 

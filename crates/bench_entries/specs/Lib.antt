@@ -1,3 +1,2 @@
--- What the contracts of this crate cite: a record's header, a session's calls of one round, and sessions that refuse.
+-- What the contracts of this crate cite: a record's header, and a session's calls of one round.
 pub mod Bench
-pub mod Refused

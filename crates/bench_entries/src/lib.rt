@@ -3,17 +3,12 @@
 // crate's own.
 //
 // Nothing here is part of the product. `bench_judge` judges a whole record, `bench_write` is the writer, and `bench_card` and
-// `bench_carrier` run all calls of one round of a session. `bench_commit`, `bench_answer_alpha` and `bench_take_reply` are single
-// calls that are refused.
+// `bench_carrier` run all calls of one round of a session.
 mod judging;
-mod refused;
 mod sessions;
 mod writing;
 
 pub use judging::bench_judge;
-pub use refused::bench_answer_alpha;
-pub use refused::bench_commit;
-pub use refused::bench_take_reply;
 pub use sessions::bench_card;
 pub use sessions::bench_carrier;
 pub use writing::bench_write;

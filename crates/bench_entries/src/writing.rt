@@ -1,11 +1,9 @@
-// The writer of records, with the header's values one by one.
-use record_form::Header;
+// The writer of records.
 ghost use mathlib.Core.Path.{_≡_};
 ghost use lib.ListN.{length};
 ghost use Rattle.refusal.specs.Refusal.{kept};
-ghost use Rattle.record_form.specs.Record.{written};
+ghost use Rattle.record_form.specs.Record.{headerOf, written};
 ghost use Rattle.record_writer.specs.Writer.{fieldsOf, writeRefusal};
-ghost use Rattle.bench_entries.specs.Bench.{headerOf};
 
 // Writes a record.
 #[no_mangle]
@@ -20,15 +18,8 @@ pub extern "C" fn bench_write<'a>(
     exchanges: &'a [u8],
     out: &mut [u8],
 ) -> u8
-    ensures { λ r. ⌜ (r ≡ writeRefusal (fieldsOf (headerOf scheme q n m rounds) (now (key .entry)) (now (commitments .entry)) (now (exchanges .entry))) (length (now (out .entry))))
+    ensures { λ r. ⌜ (r ≡ writeRefusal scheme (fieldsOf (headerOf scheme q n m rounds) (now (key .entry)) (now (commitments .entry)) (now (exchanges .entry))) (length (now (out .entry))))
         × (now (out .exit) ≡ kept r (now (out .entry)) (written (fieldsOf (headerOf scheme q n m rounds) (now (key .entry)) (now (commitments .entry)) (now (exchanges .entry))))) ⌝ }
 {
-    let header = Header {
-        scheme,
-        q,
-        n,
-        m,
-        rounds,
-    };
-    record_writer::write(header, key, commitments, exchanges, out)
+    record_writer::write(scheme, q, n, m, rounds, key, commitments, exchanges, out)
 }

@@ -10,7 +10,8 @@ use lib.ListN.{length, length-append}
 use borrow.Author.Tests.{eq-eqb}
 use Rattle.slices.specs.Slices.{_!_}
 use Rattle.slices.proofs.Booleans.{either}
-use Rattle.comparable.specs.Comparable.{frontRefusal, rejectionOf}
+use Rattle.scheme.specs.declared.Scheme.{Scheme}
+use Rattle.comparable.specs.Comparable.{comparableRefusal, rejectionOf}
 use Rattle.full_set.specs.FullSet.{firstFull}
 use Rattle.clash.specs.Clash.{firstClash}
 use Rattle.record_form.specs.Record.{headerIn}
@@ -19,7 +20,7 @@ use Rattle.report_lines.specs.ReportLines.{verdictStart, refusedWord, verdictLi
 use Rattle.reporting.specs.Report.{systemPart, recordPart, reportRefusal, roundLines, judgedText, reportText}
 use Rattle.auditing.specs.Outcome.{Outcome, secret, clash, refused, clashed, answerOf}
 use Rattle.auditing.specs.Audit.{clashAt, secretAt, findingAt, searchOf, auditOf}
-use Rattle.finding_layout.specs.FindingLayout.{front, findingBytes}
+use Rattle.finding_layout.specs.FindingLayout.{kindBytes, findingBytes}
 use Rattle.capi.specs.Layouts.{auditNumber}
 
 -- ---- an audit that answers 0 has a finding
@@ -47,33 +48,33 @@ of-secret : (system a b c : List ℕ) (r : ℕ) → Numbered (secretAt system a 
 unfolding Numbered secretAt
 of-secret system a b c r = tt
 
-of-clash : (scheme : ℕ) (system a b c d : List ℕ) (r k : ℕ) → Numbered (clashAt scheme system a b c d r k)
+of-clash : (scheme : Scheme) (system a b c d : List ℕ) (r k : ℕ) → Numbered (clashAt scheme system a b c d r k)
 unfolding Numbered clashAt
 of-clash scheme system a b c d r k = tt
 
-finding-numbered : (scheme : ℕ) (system a b c d : List ℕ) (r : ℕ) → Numbered (findingAt scheme system a b c d r)
+finding-numbered : (scheme : Scheme) (system a b c d : List ℕ) (r : ℕ) → Numbered (findingAt scheme system a b c d r)
 unfolding findingAt
 finding-numbered scheme system a b c d r = either Numbered (eqb (firstClash scheme system a b c d r) 0) _ _ (of-secret system a b c r) (of-clash scheme system a b c d r _)
 
-search-numbered : (scheme : ℕ) (system a b c d : List ℕ) → Numbered (searchOf scheme system a b c d)
+search-numbered : (scheme : Scheme) (system a b c d : List ℕ) → Numbered (searchOf scheme system a b c d)
 unfolding searchOf
 search-numbered scheme system a b c d =
     either Numbered (eqb (firstFull scheme a b c d) 0) _ _ (above 9 0 0 (omega arith)) (finding-numbered scheme system a b c d (firstFull scheme a b c d - 1))
 
-audit-numbered : (scheme : ℕ) (system a b c d : List ℕ) → Numbered (auditOf scheme system a b c d)
+audit-numbered : (scheme : Scheme) (system a b c d : List ℕ) → Numbered (auditOf scheme system a b c d)
 unfolding auditOf
 audit-numbered scheme system a b c d =
-    unless-refused (frontRefusal scheme system a b c d) _
+    unless-refused (comparableRefusal scheme system a b c d) _
     (either Numbered (eqb (rejectionOf scheme system a b c d .whose) 0) _ _ (search-numbered scheme system a b c d) (above 8 _ _ (omega arith)))
 
 told : (o : Outcome) → Numbered o → auditNumber (answerOf o .finding) ≡ 0 → (findingBytes (answerOf o) ! 0 ≡ 1) ⊎ (findingBytes (answerOf o) ! 0 ≡ 2)
-unfolding Numbered auditNumber answerOf clashed findingBytes front
+unfolding Numbered auditNumber answerOf clashed findingBytes kindBytes
 told (secret s) numbered none = inl refl
 told (clash k x y) numbered none = inr refl
 told (refused number whose round) numbered none = absurd (numbered (omega (arith, none)))
 
 -- canvasfox.h: "Byte 0: 1 for a secret, 2 for a clash.": so it is wherever an audit answers 0
-pub found : (scheme : ℕ) (system a b c d : List ℕ) →
+pub found : (scheme : Scheme) (system a b c d : List ℕ) →
     let audited = answerOf (auditOf scheme system a b c d) in
     auditNumber (audited .finding) ≡ 0 → (findingBytes audited ! 0 ≡ 1) ⊎ (findingBytes audited ! 0 ≡ 2)
 found scheme system a b c d = told (auditOf scheme system a b c d) (audit-numbered scheme system a b c d)

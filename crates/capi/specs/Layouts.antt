@@ -4,6 +4,7 @@ use mathlib.Core.List.{List, [], _∷_, _++_}
 use lib.Dec.{eqb}
 use Rattle.refusal.specs.Refusal.{unless, _orElse_}
 use Rattle.system.specs.System.{systemRefusal}
+use Rattle.scheme.specs.Scheme.{byteOf}
 use Rattle.record_form.specs.declared.layout.Layout.{Layout}
 use Rattle.record_form.specs.Record.{entry}
 use Rattle.record.specs.Reader.{recordRefusal}
@@ -16,7 +17,7 @@ use Rattle.auditing.specs.declared.Finding.the-variants.{Secret, Clash, Refused
 -- lowest first."
 unfoldable pub fieldsBytes : Layout → List ℕ
 fieldsBytes l =
-    (l .edition ∷ l .header .scheme ∷ l .header .q ∷ l .header .n ∷ l .header .m ∷ l .header .rounds ∷ []) ++
+    (l .edition ∷ byteOf (l .header .scheme) ∷ l .header .q ∷ l .header .n ∷ l .header .m ∷ l .header .rounds ∷ []) ++
     (entry (l .key) ++ entry (l .commitments) ++ entry (l .exchanges))
 
 -- canvasfox.h: "2 where fields has not 30 bytes, whatever the record is; then the record's own"

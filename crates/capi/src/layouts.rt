@@ -6,6 +6,7 @@ use record_form::Header;
 use record_form::table;
 use refusal::first;
 use refusal::unless;
+use scheme::byte_of;
 use slices::put;
 use slices::put_both;
 use system::check;
@@ -21,9 +22,10 @@ pub fn write_fields(h: Header, fields: &mut [u8])
     requires { ⌜ length (now fields) ≡ 30 ⌝ }
     ensures { λ _. ⌜ now (fields .exit) ≡ fieldsBytes (layoutOf h) ⌝ }
 {
-    let front = [1, h.scheme, h.q, h.n, h.m, h.rounds];
+    let scheme = h.scheme;
+    let head = [1, byte_of(scheme), h.q, h.n, h.m, h.rounds];
     let contents = table(h);
-    put_both(fields, &front, &contents);
+    put_both(fields, &head, &contents);
 }
 
 // The refusal's number with the record and the round, 0 for a finding.
@@ -45,9 +47,9 @@ fn audit_refusal(system: &[u8], f: Finding, room: usize) -> u32
 {
     let of_system = check(system);
     let of_room = unless(room == 752, 2);
-    let front = first(of_system, of_room);
-    if front != 0 {
-        front as u32
+    let before = first(of_system, of_room);
+    if before != 0 {
+        before as u32
     } else {
         audit_number(f)
     }

@@ -6,9 +6,12 @@ use commitment::Text;
 use full_set::answering;
 use openings::opening;
 use openings::same_openings;
+use scheme::Scheme;
+use scheme::commitment_count;
+use transcript::domain_in;
 ghost use mathlib.Core.Path.{_≡_};
 ghost use Rattle.system.specs.System.{systemRefusal};
-ghost use Rattle.clash.specs.Clash.{lowerChallenge, higherChallenge, leftRecord, rightRecord, leftOpening, rightOpening, Holds, samePair, pairs as pairsOf, firstClash};
+ghost use Rattle.clash.specs.Clash.{lowerChallenge, higherChallenge, openerFive, leftRecord, rightRecord, leftOpening, rightOpening, PairOf, samePair, firstClash};
 
 // Three passes: the lower of the two challenges whose replies open commitment k.
 fn lower_challenge(k: u8) -> u8
@@ -31,22 +34,29 @@ fn higher_challenge(k: u8) -> u8
     }
 }
 
+// Five passes: of two records with the challenges 0 and 1, the one that opens commitment k.
+fn opener_five<'a>(x: &'a [u8], y: &'a [u8], k: u8) -> &'a [u8]
+    ensures { λ s. ⌜ now s ≡ openerFive (now (x .entry)) (now (y .entry)) k ⌝ }
+{
+    if k != 0 {
+        return y;
+    }
+    x
+}
+
 // The record whose opening of commitment k stands first.
-fn left_record<'a>(scheme: u8, a: &'a [u8], b: &'a [u8], c: &'a [u8], r: u8, k: u8) -> &'a [u8]
+fn left_record<'a>(scheme: Scheme, a: &'a [u8], b: &'a [u8], c: &'a [u8], r: u8, k: u8) -> &'a [u8]
     ensures { λ s. ⌜ now s ≡ leftRecord scheme (now (a .entry)) (now (b .entry)) (now (c .entry)) r k ⌝ }
 {
-    if scheme == 3 {
-        return answering(a, b, c, r, lower_challenge(k));
+    match scheme {
+        Scheme::ThreePass => answering(a, b, c, r, lower_challenge(k)),
+        Scheme::FivePass => opener_five(a, b, k),
     }
-    if k != 0 {
-        return b;
-    }
-    a
 }
 
 // The record whose opening of commitment k is compared with it.
 fn right_record<'a>(
-    scheme: u8,
+    scheme: Scheme,
     a: &'a [u8],
     b: &'a [u8],
     c: &'a [u8],
@@ -56,13 +66,10 @@ fn right_record<'a>(
 ) -> &'a [u8]
     ensures { λ s. ⌜ now s ≡ rightRecord scheme (now (a .entry)) (now (b .entry)) (now (c .entry)) (now (d .entry)) r k ⌝ }
 {
-    if scheme == 3 {
-        return answering(a, b, c, r, higher_challenge(k));
+    match scheme {
+        Scheme::ThreePass => answering(a, b, c, r, higher_challenge(k)),
+        Scheme::FivePass => opener_five(c, d, k),
     }
-    if k != 0 {
-        return d;
-    }
-    c
 }
 
 // The two strings that open commitment k, the one that stands first on the left.
@@ -72,7 +79,7 @@ pub struct Pair {
 }
 
 pub fn opened_pair<'a>(
-    scheme: u8,
+    scheme: Scheme,
     system: &'a [u8],
     a: &'a [u8],
     b: &'a [u8],
@@ -82,7 +89,7 @@ pub fn opened_pair<'a>(
     k: u8,
 ) -> Pair
     requires { ⌜ systemRefusal (now system) ≡ 0 ⌝ }
-    ensures { λ p. ⌜ Holds p (leftOpening scheme (now (system .entry)) (now (a .entry)) (now (b .entry)) (now (c .entry)) r k) (rightOpening scheme (now (system .entry)) (now (a .entry)) (now (b .entry)) (now (c .entry)) (now (d .entry)) r k) ⌝ }
+    ensures { λ p. ⌜ PairOf p (leftOpening scheme (now (system .entry)) (now (a .entry)) (now (b .entry)) (now (c .entry)) r k) (rightOpening scheme (now (system .entry)) (now (a .entry)) (now (b .entry)) (now (c .entry)) (now (d .entry)) r k) ⌝ }
 {
     let left = opening(system, left_record(scheme, a, b, c, r, k), r, k);
     let right = opening(system, right_record(scheme, a, b, c, d, r, k), r, k);
@@ -91,7 +98,7 @@ pub fn opened_pair<'a>(
 
 // Whether both open commitment k with the same vectors.
 fn same_pair<'a>(
-    scheme: u8,
+    scheme: Scheme,
     system: &'a [u8],
     a: &'a [u8],
     b: &'a [u8],
@@ -106,19 +113,12 @@ fn same_pair<'a>(
     let pair = opened_pair(scheme, system, a, b, c, d, r, k);
     let left = pair.left;
     let right = pair.right;
-    same_openings(left, right)
-}
-
-// How many commitments are compared.
-fn pairs(scheme: u8) -> u8
-    ensures { λ r. ⌜ r ≡ pairsOf scheme ⌝ }
-{
-    if scheme == 3 { 3 } else { 2 }
+    same_openings(domain_in(a), left, right)
 }
 
 // The first pair that differs, counted from 1; 0 where none does.
 pub fn first_clash<'a>(
-    scheme: u8,
+    scheme: Scheme,
     system: &'a [u8],
     a: &'a [u8],
     b: &'a [u8],
@@ -129,7 +129,7 @@ pub fn first_clash<'a>(
     requires { ⌜ systemRefusal (now system) ≡ 0 ⌝ }
     ensures { λ k. ⌜ k ≡ firstClash scheme (now (system .entry)) (now (a .entry)) (now (b .entry)) (now (c .entry)) (now (d .entry)) r ⌝ }
 {
-    let count = pairs(scheme);
+    let count = commitment_count(scheme);
     let mut k = 0;
     while k < count {
         if same_pair(scheme, system, a, b, c, d, r, k) {

@@ -1,3 +1,3 @@
 -- Laws of an audit's refusals before a full set is looked for.
-pub mod Front
+pub mod Passed
 pub mod Rejections

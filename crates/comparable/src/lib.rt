@@ -1,7 +1,7 @@
 // What an audit refuses before it looks for a full set: of the system, of each record, of records that differ, and of a round
 // that is rejected.
 //
-// Scheme 3 has no fourth record: the third is given in its place, and is not judged twice.
+// Scheme 3 has no fourth record, and `d` is not looked at there.
 use record::Reading;
 use record::body_of;
 use record::header_of;
@@ -10,6 +10,8 @@ use record::refusal_of;
 use record_form::laid_out;
 use refusal::first;
 use refusal::unless;
+use scheme::Scheme;
+use scheme::byte_of;
 use slices::equal;
 use slices::part;
 use system::check;
@@ -17,17 +19,21 @@ use transcript::accepts_round;
 use transcript::fit_refusal;
 ghost use mathlib.Core.Path.{_≡_};
 ghost use Rattle.system.specs.System.{systemRefusal};
-ghost use Rattle.comparable.specs.Comparable.{auditedRefusal, differenceRefusal, frontRefusal, rejectedRound, laterRejection, rejectionOf};
+ghost use Rattle.refusal.specs.Refusal.{_orElse_};
+ghost use Rattle.transcript.specs.Transcript.{fitRefusal};
+ghost use Rattle.comparable.specs.Comparable.{auditedRefusal, differenceRefusal, ofFourth, comparableRefusal, rejectedRound, laterRejection, rejectionOf};
 
 // The refusal of one record, 0 for none.
-fn audited_refusal(scheme: u8, bytes: &[u8]) -> u8
+fn audited_refusal(scheme: Scheme, bytes: &[u8]) -> u8
     ensures { λ r. ⌜ r ≡ auditedRefusal scheme (now (bytes .entry)) ⌝ }
 {
     let reading = read(bytes);
     let Reading::Good(layout) = reading else {
         return refusal_of(reading);
     };
-    unless(layout.header.scheme == scheme, 1)
+    let header = layout.header;
+    let of_record = header.scheme;
+    unless(byte_of(of_record) == byte_of(scheme), 1)
 }
 
 // 7 where two records differ in the header, the key or a commitment.
@@ -45,26 +51,91 @@ fn difference_refusal<'a>(a: &'a [u8], b: &'a [u8]) -> u8
     )
 }
 
-// The refusal before any round is judged, 0 for none.
-pub fn front_refusal<'a>(
-    scheme: u8,
+// Of the fourth record, which scheme 3 has not.
+fn fourth_audited(scheme: Scheme, d: &[u8]) -> u8
+    ensures { λ r. ⌜ r ≡ ofFourth scheme (auditedRefusal scheme (now (d .entry))) ⌝ }
+{
+    match scheme {
+        Scheme::ThreePass => 0,
+        Scheme::FivePass => audited_refusal(scheme, d),
+    }
+}
+
+// The refusal of each record in turn, 0 for none; it ends at the first.
+fn readings_refusal<'a>(scheme: Scheme, a: &'a [u8], b: &'a [u8], c: &'a [u8], d: &'a [u8]) -> u8
+    ensures { λ r. ⌜ r ≡ (auditedRefusal scheme (now (a .entry)) orElse auditedRefusal scheme (now (b .entry)) orElse auditedRefusal scheme (now (c .entry)) orElse ofFourth scheme (auditedRefusal scheme (now (d .entry)))) ⌝ }
+{
+    let of_a = audited_refusal(scheme, a);
+    if of_a != 0 {
+        return of_a;
+    }
+    let of_b = audited_refusal(scheme, b);
+    if of_b != 0 {
+        return of_b;
+    }
+    let of_c = audited_refusal(scheme, c);
+    if of_c != 0 {
+        return of_c;
+    }
+    fourth_audited(scheme, d)
+}
+
+// 7 where the fourth record, which scheme 3 has not, differs from the first.
+fn fourth_difference<'a>(scheme: Scheme, a: &'a [u8], d: &'a [u8]) -> u8
+    ensures { λ r. ⌜ r ≡ ofFourth scheme (differenceRefusal (now (a .entry)) (now (d .entry))) ⌝ }
+{
+    match scheme {
+        Scheme::ThreePass => 0,
+        Scheme::FivePass => difference_refusal(a, d),
+    }
+}
+
+// 7 where the system has other sizes or a record differs from the first; it ends at the first.
+fn differing_refusal<'a>(
+    scheme: Scheme,
     system: &'a [u8],
     a: &'a [u8],
     b: &'a [u8],
     c: &'a [u8],
     d: &'a [u8],
 ) -> u8
-    ensures { λ r. ⌜ r ≡ frontRefusal scheme (now (system .entry)) (now (a .entry)) (now (b .entry)) (now (c .entry)) (now (d .entry)) ⌝ }
+    ensures { λ r. ⌜ r ≡ (fitRefusal (now (system .entry)) (now (a .entry)) orElse differenceRefusal (now (a .entry)) (now (b .entry)) orElse differenceRefusal (now (a .entry)) (now (c .entry)) orElse ofFourth scheme (differenceRefusal (now (a .entry)) (now (d .entry)))) ⌝ }
 {
-    let readings = first(
-        first(audited_refusal(scheme, a), audited_refusal(scheme, b)),
-        first(audited_refusal(scheme, c), audited_refusal(scheme, d)),
-    );
-    let differing = first(
-        first(fit_refusal(system, a), difference_refusal(a, b)),
-        first(difference_refusal(a, c), difference_refusal(a, d)),
-    );
-    first(check(system), first(readings, differing))
+    let of_sizes = fit_refusal(system, a);
+    if of_sizes != 0 {
+        return of_sizes;
+    }
+    let of_b = difference_refusal(a, b);
+    if of_b != 0 {
+        return of_b;
+    }
+    let of_c = difference_refusal(a, c);
+    if of_c != 0 {
+        return of_c;
+    }
+    fourth_difference(scheme, a, d)
+}
+
+// The refusal before any round is judged, 0 for none; it ends at the first.
+pub fn comparable_refusal<'a>(
+    scheme: Scheme,
+    system: &'a [u8],
+    a: &'a [u8],
+    b: &'a [u8],
+    c: &'a [u8],
+    d: &'a [u8],
+) -> u8
+    ensures { λ r. ⌜ r ≡ comparableRefusal scheme (now (system .entry)) (now (a .entry)) (now (b .entry)) (now (c .entry)) (now (d .entry)) ⌝ }
+{
+    let of_system = check(system);
+    if of_system != 0 {
+        return of_system;
+    }
+    let readings = readings_refusal(scheme, a, b, c, d);
+    if readings != 0 {
+        return readings;
+    }
+    differing_refusal(scheme, system, a, b, c, d)
 }
 
 // The first rejected round of a record, counted from 1; 0 where every round is accepted.
@@ -90,8 +161,19 @@ pub struct Rejection {
     pub round: u8,
 }
 
+// The rejected round of the fourth record, which scheme 3 has not.
+fn fourth_rejected<'a>(scheme: Scheme, system: &'a [u8], d: &'a [u8]) -> u8
+    requires { ⌜ systemRefusal (now system) ≡ 0 ⌝ }
+    ensures { λ r. ⌜ r ≡ ofFourth scheme (rejectedRound (now (system .entry)) (now (d .entry))) ⌝ }
+{
+    match scheme {
+        Scheme::ThreePass => 0,
+        Scheme::FivePass => rejected_round(system, d),
+    }
+}
+
 // The same among the last two records.
-fn later_rejection<'a>(scheme: u8, system: &'a [u8], c: &'a [u8], d: &'a [u8]) -> Rejection
+fn later_rejection<'a>(scheme: Scheme, system: &'a [u8], c: &'a [u8], d: &'a [u8]) -> Rejection
     requires { ⌜ systemRefusal (now system) ≡ 0 ⌝ }
     ensures { λ r. ⌜ r ≡ laterRejection scheme (now (system .entry)) (now (c .entry)) (now (d .entry)) ⌝ }
 {
@@ -102,10 +184,7 @@ fn later_rejection<'a>(scheme: u8, system: &'a [u8], c: &'a [u8], d: &'a [u8]) -
             round: in_c,
         };
     }
-    if scheme == 3 {
-        return Rejection { whose: 0, round: 0 };
-    }
-    let in_d = rejected_round(system, d);
+    let in_d = fourth_rejected(scheme, system, d);
     if in_d != 0 {
         return Rejection {
             whose: 4,
@@ -116,7 +195,7 @@ fn later_rejection<'a>(scheme: u8, system: &'a [u8], c: &'a [u8], d: &'a [u8]) -
 }
 
 pub fn first_rejection<'a>(
-    scheme: u8,
+    scheme: Scheme,
     system: &'a [u8],
     a: &'a [u8],
     b: &'a [u8],

@@ -6,17 +6,15 @@ use mathlib.Core.List.{List, [], _∷_, _++_}
 use native.Mathlib.Nat.{lt-of-not-le}
 use native.Mathlib.Decide.{decLe}
 use native.Mathlib.Omega.{arith}
-use lib.Dec.{ltb}
 use lib.ListN.{length, take, length-append, length-take, List·getD-append, List·getD-eq-default}
 use lib.Seq.{length-take-le, getD-take, getD-append-add, take-append-le, take-at}
 use Rattle.slices.specs.Slices.{_!_, tabulate}
 use Rattle.slices.specs.Slices.{same as sameBytes}
 use Rattle.slices.proofs.Tabulate.{length-tabulate, tabulate-at, tabulate-beyond, tabulate-of, tabulate-cong}
-use Rattle.slices.proofs.Booleans.{and-left, and-right}
 use Rattle.field.specs.Ops.{Ops}
 use Rattle.field.specs.Vector.{vector, slotV, IsVector, allBelow}
-use Rattle.field.proofs.Vectors.{length-vector, vector-at, vector-beyond, vector-cong}
-use Rattle.system.proofs.SystemLayout.{at-all-below}
+use Rattle.field.proofs.Vectors.{length-vector, vector-at, vector-beyond, vector-cong, element-at}
+use Rattle.field.proofs.Elements.{at-all-below, below-append}
 use Rattle.scheme.specs.declared.Scheme.{Scheme}
 use Rattle.scheme.specs.declared.Scheme.the-variants.{ThreePass, FivePass}
 use Rattle.scheme.specs.Scheme.{commitmentCount, commitmentsLength, openedCount, vectorsLength, rhosLength, replyLength}
@@ -147,19 +145,13 @@ two-at c k =
 
 -- ---- elements
 
-pub below-append : (q : ℕ) (s t : List ℕ) → allBelow q s ≡ true → allBelow q t ≡ true → allBelow q (s ++ t) ≡ true
-unfolding allBelow
-below-append q [] t hs ht = ht
-below-append q (x ∷ s) t hs ht =
-    rw (and-left (ltb x q) (allBelow q s) hs, below-append q s t (and-right (ltb x q) (allBelow q s) hs) ht)
-
 module _ (o : Ops) where
   below-vector : (n : ℕ) (x : List ℕ) → IsVector o n x → allBelow (o .size) (take n x) ≡ true
   below-vector n x k =
       at-all-below (o .size) (take n x) (λ i h.
       let short : length (take n x) ≤ n = rw (length-take n x) (omega arith) in
       let below : i < n = omega arith in
-      rw (getD-take n x i 0 below) (k .elements i))
+      rw (getD-take n x i 0 below) (element-at o n x k i))
 
   -- ---- a reply of three passes
 

@@ -14,7 +14,9 @@ use lib.Seq.{getD-set-same, getD-set-other}
 use borrow.Author.Tests.{lt-ltb, le-ltb}
 use Rattle.slices.specs.Slices.{_!_}
 use Rattle.slices.proofs.Tabulate.{length-tabulate, tabulate-at, tabulate-beyond, tabulate-of}
-use Rattle.field.specs.Vector.{vector}
+use Rattle.field.specs.Ops.{Ops}
+use Rattle.field.specs.Vector.{vector, IsVector}
+use Rattle.field.proofs.Elements.{everywhere}
 
 -- ---- vectors
 
@@ -53,6 +55,13 @@ vector-of l n f len low high =
 pub vector-cong : (n : ℕ) (f g : ℕ → ℕ) → ((i : ℕ) → i < n → i < 96 → f i ≡ g i) → vector n f ≡ vector n g
 vector-cong n f g same =
     vector-of (vector n f) n g (length-vector n f) (λ i h k. vector-at n f i h k ∙ same i h k) (λ i h k. vector-beyond n f i h)
+
+-- what is read of a vector is an element, wherever it is read
+pub element-at : (o : Ops) (n : ℕ) (x : List ℕ) → IsVector o n x → (i : ℕ) → x ! i < o .size
+element-at o n x k i =
+    let whole : length x ≡ 96 = ap length (k .padded) ∙ length-vector n (λ j. x ! j) in
+    let first : x ! 0 < o .size = k .elements 0 (omega (arith, whole)) in
+    everywhere (o .size) x (omega (arith, first)) (k .elements) i
 
 -- ---- a loop that fills a vector from the front
 

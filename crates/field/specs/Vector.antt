@@ -32,7 +32,7 @@ allBelow q (x ∷ xs) = ltb x q && allBelow q xs
 -- x is a vector of n elements
 pub record IsVector (o : Ops) (n : ℕ) (x : List ℕ) : Type 0 where
   pub padded : x ≡ vector n (λ i. x ! i)
-  pub elements : (i : ℕ) → x ! i < o .size
+  pub elements : Elements (o .size) x
 
 -- sum, difference and multiple of vectors of n elements
 unfoldable pub addV : Ops → ℕ → List ℕ → List ℕ → List ℕ

@@ -6,11 +6,11 @@ use record_form::word;
 use slices::put_both;
 ghost use mathlib.Core.Path.{_≡_};
 ghost use lib.ListN.{length};
-ghost use Rattle.finding_layout.specs.FindingLayout.{front as frontOf, textBytes, findingBytes};
+ghost use Rattle.finding_layout.specs.FindingLayout.{kindBytes, textBytes, findingBytes};
 
 // Which finding it is, and what it says.
-fn front(f: Finding) -> [u8; 4]
-    ensures { λ r. ⌜ (r ≡ frontOf f) × (length r ≡ 4) ⌝ }
+fn kind_bytes(f: Finding) -> [u8; 4]
+    ensures { λ r. ⌜ (r ≡ kindBytes f) × (length r ≡ 4) ⌝ }
 {
     match f {
         Finding::Secret => [1, 0, 0, 0],
@@ -36,13 +36,13 @@ pub fn finding_bytes(audited: Audited) -> [u8; 752]
 {
     let finding = audited.finding;
     let secret = audited.secret;
-    let told = front(finding);
+    let kind = kind_bytes(finding);
     let first = text_bytes(audited.first);
     let second = text_bytes(audited.second);
     let mut start = [0; 100];
     let mut strings = [0; 652];
     let mut out = [0; 752];
-    put_both(&mut start, &told, &secret);
+    put_both(&mut start, &kind, &secret);
     put_both(&mut strings, &first, &second);
     put_both(&mut out, &start, &strings);
     out

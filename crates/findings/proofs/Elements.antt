@@ -1,48 +1,37 @@
 -- What an audited record holds: its key is that of the first, and the key, the first vector of each reply and α are elements. Assumes nothing.
 use Prim.Native.Nat.{ℕ, _+_, _≤_, _<_}
-use mathlib.Core.Path.{_≡_, refl, sym, ap, subst, _∙_}
-use mathlib.Core.Bool.{Bool, true, false}
+use mathlib.Core.Path.{_≡_, sym, ap, subst, _∙_}
 use mathlib.Core.List.{List}
-use native.Mathlib.Nat.{lt-of-not-le, zero-add}
-use native.Mathlib.Decide.{decLe}
+use native.Mathlib.Nat.{zero-add}
 use native.Mathlib.Omega.{arith}
-use lib.Dec.{eqb}
-use lib.ListN.{length, drop, List·getD-eq-default}
+use lib.ListN.{length, drop}
 use lib.Seq.{getD-take}
 use Rattle.slices.specs.Slices.{_!_}
 use Rattle.field.specs.Vector.{vector, slotV}
+use Rattle.field.proofs.Elements.{everywhere}
 use Rattle.field.proofs.Modulus.{size-of}
 use Rattle.field.proofs.Fields.{ring}
 use Rattle.system.specs.System.{qOf, nOf, mOf, opsOf, systemRefusal}
 use Rattle.system.proofs.SystemLayout.{accepted}
 use Rattle.protocol.specs.Rounds.{IsX, IsY, IsScalar}
 use Rattle.protocol.proofs.SystemMap.{is-vector}
+use Rattle.scheme.specs.declared.Scheme.{Scheme}
+use Rattle.scheme.specs.declared.Scheme.the-variants.{ThreePass, FivePass}
 use Rattle.scheme.specs.Scheme.{turnLength, vectorsLength, rhosLength, replyLength}
 use Rattle.record_form.specs.declared.layout.Header.{Header}
-use Rattle.record_form.specs.Record.{Elements, ValidExchange, layoutOf, replyOf, vectorsOf, headerIn, fieldsIn}
+use Rattle.record_form.specs.Record.{ValidExchange, layoutOf, replyOf, vectorsOf, headerIn, fieldsIn}
 use Rattle.record.specs.Reader.{recordRefusal}
 use Rattle.record.proofs.RecordLayout.{not-refused, valid-fields}
-use Rattle.transcript.specs.Transcript.{keyVector, roundExchange, roundTurn, roundReply}
+use Rattle.transcript.specs.Transcript.{domainIn, keyVector, roundExchange, roundTurn, roundReply}
 use Rattle.openings.specs.Openings.{replyVector}
 use Rattle.findings.specs.Findings.{Auditable}
 
 -- ---- of any record
 
--- what is read is below q, beyond the end too
-everywhere : (q : ℕ) (l : List ℕ) → 0 < q → Elements q l → (i : ℕ) → l ! i < q
-everywhere q l pos elements i =
-    elim (decLe (length l) i) [
-      | yes h ↦ rw (List·getD-eq-default l 0 h) pos
-      | no h ↦ elements i (lt-of-not-le h)
-    ]
-
-vectors-room : (scheme n m : ℕ) → n ≤ vectorsLength scheme n m
+vectors-room : (scheme : Scheme) (n m : ℕ) → n ≤ vectorsLength scheme n m
 unfolding vectorsLength
-vectors-room scheme n m = go (eqb scheme 3) refl
-  where
-    go : (t : Bool) → eqb scheme 3 ≡ t → n ≤ vectorsLength scheme n m
-    go true e = simp e (omega arith)
-    go false e = simp e (omega arith)
+vectors-room ThreePass n m = omega arith
+vectors-room FivePass n m = omega arith
 
 -- an element of the reply's first vector is one of its elements
 reply-at : (h : Header) (exchange : List ℕ) (i : ℕ) → i < h .n → replyOf h exchange ! i ≡ vectorsOf h exchange ! i
@@ -59,7 +48,12 @@ valid-exchange b good r h = valid-fields b good .each-exchange r h
 
 -- ---- of an audited record
 
-module _ (scheme : ℕ) (system a b : List ℕ) where
+module _ (scheme : Scheme) (system a b : List ℕ) where
+  -- what stands before ρ is the same in their strings
+  pub same-domain : Auditable scheme system a b → domainIn a ≡ domainIn b
+  unfolding domainIn
+  same-domain k = λ i. record { scheme = k .same-header i .scheme }
+
   pub same-v : Auditable scheme system a b → keyVector b ≡ keyVector a
   unfolding keyVector
   same-v k = ap (λ (l : List ℕ). vector (length l) (λ i. l ! i)) (sym (k .same-key))
@@ -92,4 +86,4 @@ module _ (scheme : ℕ) (system a b : List ℕ) where
     pub alpha-is : (r : ℕ) → r < headerIn b .rounds → IsScalar system (roundTurn b r ! 0)
     alpha-is r h =
         let valid = valid-exchange b (not-refused b (k .well-formed)) r h in
-        rw size-is (everywhere (headerIn b .q) (roundTurn b r) positive (valid .middle-elements) 0)
+        rw size-is (everywhere (headerIn b .q) (roundTurn b r) positive (valid .turn-elements) 0)

@@ -11,6 +11,7 @@ use lib.Dec.{eqb}
 use Rattle.slices.specs.Slices.{_!_, same}
 use Rattle.slices.proofs.Booleans.{and-left, and-right, and-both}
 use Rattle.slices.proofs.Sameness.{same-true, same-by}
+use Rattle.scheme.specs.declared.Scheme.the-variants.{ThreePass, FivePass}
 use Rattle.transcript.specs.Transcript.{roundTurn, roundChallenge}
 use Rattle.full_set.specs.FullSet.{answering, answered, fullThree, askedBoth, fullFive, fullSet}
 use Rattle.findings.specs.Findings.{FullThree, FullFive, Among}
@@ -160,23 +161,23 @@ module _ (a b c : List ℕ) (r : ℕ) (full : FullThree a b c r) where
 
 -- ---- five passes
 
--- challenges 0 and 1 after the same middle
+-- challenges 0 and 1 after the same turn
 record Both (x y : List ℕ) (r : ℕ) : Type 0 where
   zero-asked : roundChallenge x r ≡ 0
   one-asked : roundChallenge y r ≡ 1
-  same-middle : roundTurn x r ≡ roundTurn y r
+  same-turn : roundTurn x r ≡ roundTurn y r
 
 asked-both : (x y : List ℕ) (r : ℕ) → askedBoth x y r ≡ true → Both x y r
 unfolding askedBoth
 asked-both x y r e =
     let zero-test = eqb (roundChallenge x r) 0 in
     let one-test = eqb (roundChallenge y r) 1 in
-    let middle-test = same (roundTurn x r) (roundTurn y r) in
-    let rest = and-right zero-test (one-test && middle-test) e in
+    let turn-test = same (roundTurn x r) (roundTurn y r) in
+    let rest = and-right zero-test (one-test && turn-test) e in
     record {
-      zero-asked = eqb-true _ _ (and-left zero-test (one-test && middle-test) e);
-      one-asked = eqb-true _ _ (and-left one-test middle-test rest);
-      same-middle = same-true _ _ (and-right one-test middle-test rest);
+      zero-asked = eqb-true _ _ (and-left zero-test (one-test && turn-test) e);
+      one-asked = eqb-true _ _ (and-left one-test turn-test rest);
+      same-turn = same-true _ _ (and-right one-test turn-test rest);
     }
 
 pub five-full : (a b c d : List ℕ) (r : ℕ) → fullFive a b c d r ≡ true → FullFive a b c d r
@@ -191,24 +192,24 @@ five-full a b c d r e =
       b-challenge = ab .one-asked;
       c-challenge = cd .zero-asked;
       d-challenge = cd .one-asked;
-      ab-middle = ab .same-middle;
-      cd-middle = cd .same-middle;
+      ab-turn = ab .same-turn;
+      cd-turn = cd .same-turn;
       other-alpha = eqb-false _ _ (not-true _ (and-right (askedBoth c d r) alpha-test rest));
     }
 
 pub full-five : (a b c d : List ℕ) (r : ℕ) → FullFive a b c d r → fullFive a b c d r ≡ true
 unfolding fullFive askedBoth
 full-five a b c d r k =
-    and-both _ _ (and-both _ _ (eq-eqb _ _ (k .a-challenge)) (and-both _ _ (eq-eqb _ _ (k .b-challenge)) (same-by _ _ (k .ab-middle))))
-    (and-both _ _ (and-both _ _ (eq-eqb _ _ (k .c-challenge)) (and-both _ _ (eq-eqb _ _ (k .d-challenge)) (same-by _ _ (k .cd-middle))))
+    and-both _ _ (and-both _ _ (eq-eqb _ _ (k .a-challenge)) (and-both _ _ (eq-eqb _ _ (k .b-challenge)) (same-by _ _ (k .ab-turn))))
+    (and-both _ _ (and-both _ _ (eq-eqb _ _ (k .c-challenge)) (and-both _ _ (eq-eqb _ _ (k .d-challenge)) (same-by _ _ (k .cd-turn))))
     (ap not (ne-eqb _ _ (k .other-alpha))))
 
 -- ---- the scheme chooses
 
-pub set-three : (a b c d : List ℕ) (r : ℕ) → fullSet 3 a b c d r ≡ fullThree a b c r
+pub set-three : (a b c d : List ℕ) (r : ℕ) → fullSet ThreePass a b c d r ≡ fullThree a b c r
 unfolding fullSet
 set-three a b c d r = refl
 
-pub set-five : (a b c d : List ℕ) (r : ℕ) → fullSet 5 a b c d r ≡ fullFive a b c d r
+pub set-five : (a b c d : List ℕ) (r : ℕ) → fullSet FivePass a b c d r ≡ fullFive a b c d r
 unfolding fullSet
 set-five a b c d r = refl

@@ -8,13 +8,15 @@ use native.Mathlib.Omega.{arith}
 use lib.Dec.{eqb}
 use Rattle.slices.proofs.Booleans.{either}
 use Rattle.refusal.specs.Refusal.{unless, _orElse_, firstOf}
+use Rattle.scheme.specs.declared.Scheme.{Scheme}
+use Rattle.scheme.specs.declared.Scheme.the-variants.{ThreePass, FivePass}
 use Rattle.system.specs.System.{systemRefusal}
 use Rattle.record_form.specs.declared.layout.Header.{Header}
 use Rattle.record_form.specs.declared.form.Check.the-variants.{FileOrder}
 use Rattle.record_form.specs.Form.{exchangeRefusal, exchangesRefusal}
 use Rattle.record.specs.Reader.{recordRefusal}
 use Rattle.transcript.specs.Transcript.{fitRefusal}
-use Rattle.comparable.specs.Comparable.{auditedRefusal, differenceRefusal, frontRefusal}
+use Rattle.comparable.specs.Comparable.{auditedRefusal, differenceRefusal, ofFourth, comparableRefusal}
 use Rattle.findings.specs.Findings.{otherNumbers, OneOf}
 
 -- ---- each number
@@ -87,10 +89,11 @@ record-known b =
     orElse-known _ _ (unless-known _ 6 six)
     (orElse-known _ _ (unless-known _ 6 six)
     (orElse-known _ _ (unless-known _ 1 one)
+    (orElse-known _ _ (unless-known _ 1 one)
     (orElse-known _ _ (unless-known _ 6 six)
-    (orElse-known _ _ (unless-known _ 6 six) (orElse-known _ _ (unless-known _ 3 three) (exchanges-known _ _))))))
+    (orElse-known _ _ (unless-known _ 6 six) (orElse-known _ _ (unless-known _ 3 three) (exchanges-known _ _)))))))
 
-audited-known : (scheme : ℕ) (b : List ℕ) → Known (auditedRefusal scheme b)
+audited-known : (scheme : Scheme) (b : List ℕ) → Known (auditedRefusal scheme b)
 unfolding auditedRefusal
 audited-known scheme b = orElse-known _ _ (record-known b) (unless-known _ 1 one)
 
@@ -102,17 +105,23 @@ difference-known : (a b : List ℕ) → Known (differenceRefusal a b)
 unfolding differenceRefusal
 difference-known a b = orElse-known _ _ (unless-known _ 7 seven) (orElse-known _ _ (unless-known _ 7 seven) (unless-known _ 7 seven))
 
-front-known : (scheme : ℕ) (system a b c d : List ℕ) → Known (frontRefusal scheme system a b c d)
-unfolding frontRefusal
-front-known scheme system a b c d =
+fourth-known : (scheme : Scheme) (k : ℕ) → Known k → Known (ofFourth scheme k)
+unfolding ofFourth
+fourth-known ThreePass k is = inl refl
+fourth-known FivePass k is = is
+
+comparable-known : (scheme : Scheme) (system a b c d : List ℕ) → Known (comparableRefusal scheme system a b c d)
+unfolding comparableRefusal
+comparable-known scheme system a b c d =
     orElse-known _ _ (system-known system)
     (orElse-known _ _ (audited-known scheme a)
     (orElse-known _ _ (audited-known scheme b)
     (orElse-known _ _ (audited-known scheme c)
-    (orElse-known _ _ (audited-known scheme d)
+    (orElse-known _ _ (fourth-known scheme _ (audited-known scheme d))
     (orElse-known _ _ (fit-known system a)
-    (orElse-known _ _ (difference-known a b) (orElse-known _ _ (difference-known a c) (difference-known a d))))))))
+    (orElse-known _ _ (difference-known a b) (orElse-known _ _ (difference-known a c) (fourth-known scheme _ (difference-known a d)))))))))
 
 -- what is refused there is refused with one of these numbers
-pub front-number : (scheme : ℕ) (system a b c d : List ℕ) → (frontRefusal scheme system a b c d ≡ 0 → ⊥) → Number (frontRefusal scheme system a b c d)
-front-number scheme system a b c d some = some-number _ some (front-known scheme system a b c d)
+pub comparable-number : (scheme : Scheme) (system a b c d : List ℕ) → (comparableRefusal scheme system a b c d ≡ 0 → ⊥) →
+    Number (comparableRefusal scheme system a b c d)
+comparable-number scheme system a b c d some = some-number _ some (comparable-known scheme system a b c d)

@@ -5,10 +5,11 @@ use mathlib.Core.Bool.{not}
 use mathlib.Core.List.{List, [], _∷_}
 use native.Mathlib.Omega.{arith}
 use borrow.Author.Tests.{not-true, not-false}
+use Rattle.scheme.specs.declared.Scheme.the-variants.{ThreePass, FivePass}
 use Rattle.record_form.specs.Record.{headerIn}
 use Rattle.transcript.proofs.Search.{where-none, none-where, found-where}
 use Rattle.comparable.specs.declared.Rejection.{Rejection}
-use Rattle.comparable.specs.Comparable.{rejectedRound, rejectedIn, noRejection, laterRejection, rejectionOf}
+use Rattle.comparable.specs.Comparable.{rejectedRound, rejectedIn, noRejection, ofFourth, laterRejection, rejectionOf}
 use Rattle.comparable.proofs.Rejections as R
 use Rattle.findings.specs.Findings.{AllAccepted, Each, none-left, each, FirstRejected, rejected-here, rejected-later}
 
@@ -17,12 +18,12 @@ unfoldable pub walk : List ℕ → ℕ → List (List ℕ) → Rejection
 walk system k [] = noRejection
 walk system k (b ∷ bs) = rejectedIn k (rejectedRound system b) (walk system (k + 1) bs)
 
-pub three-walk : (system a b c d : List ℕ) → rejectionOf 3 system a b c d ≡ walk system 1 (a ∷ b ∷ c ∷ [])
-unfolding rejectionOf laterRejection walk
+pub three-walk : (system a b c d : List ℕ) → rejectionOf ThreePass system a b c d ≡ walk system 1 (a ∷ b ∷ c ∷ [])
+unfolding rejectionOf laterRejection ofFourth rejectedIn walk
 three-walk system a b c d = refl
 
-pub five-walk : (system a b c d : List ℕ) → rejectionOf 5 system a b c d ≡ walk system 1 (a ∷ b ∷ c ∷ d ∷ [])
-unfolding rejectionOf laterRejection walk
+pub five-walk : (system a b c d : List ℕ) → rejectionOf FivePass system a b c d ≡ walk system 1 (a ∷ b ∷ c ∷ d ∷ [])
+unfolding rejectionOf laterRejection ofFourth rejectedIn walk
 five-walk system a b c d = refl
 
 -- ---- one record

@@ -12,87 +12,91 @@ use Rattle.system.specs.System.{F, systemRefusal}
 use Rattle.system.proofs.SystemLayout.{well-formed, not-refused}
 use Rattle.protocol.specs.Rounds.{mapOf}
 use Rattle.protocol.proofs.Rounds.{quadratic-map}
-use Rattle.round.specs.Pieces.{commitment}
-use Rattle.exchange.specs.Messages.{commitmentsIn}
+use Rattle.scheme.specs.declared.Scheme.{Scheme}
+use Rattle.scheme.specs.Scheme.{commitmentCount}
+use Rattle.commitment.specs.declared.Domain.{Domain}
+use Rattle.commitment.specs.Commitment.{vectorsIn}
+use Rattle.round.specs.Openings.{commitmentAt}
 use Rattle.record_form.specs.declared.layout.Header.{Header}
 use Rattle.record_form.specs.Record.{headerIn, commitmentsOf}
-use Rattle.transcript.specs.Transcript.{keyVector, roundCommitments}
+use Rattle.transcript.specs.Transcript.{domainIn, keyVector, roundCommitments}
 use Rattle.transcript.proofs.Search.{FirstIs, where-none, found-where}
 use Rattle.comparable.specs.declared.Rejection.{Rejection}
-use Rattle.comparable.specs.Comparable.{frontRefusal, rejectionOf}
-use Rattle.comparable.proofs.Front.{Front, front, none-refused}
-use Rattle.openings.specs.Openings.{openingIn, compared, sameOpenings, replyVector, secretOf}
+use Rattle.comparable.specs.Comparable.{comparableRefusal, rejectionOf}
+use Rattle.comparable.proofs.Passed.{Passed, passed, none-refused}
+use Rattle.openings.specs.Openings.{openingIn, sameOpenings, replyVector, secretOf}
 use Rattle.full_set.specs.FullSet.{answering, fullSet, firstFull}
-use Rattle.clash.specs.Clash.{leftRecord, rightRecord, leftOpening, rightOpening, samePair, pairs, firstClash}
+use Rattle.clash.specs.Clash.{leftRecord, rightRecord, leftOpening, rightOpening, samePair, firstClash}
 use Rattle.auditing.specs.Audit.{secretAt, clashAt, findingAt, searchOf, auditOf}
 use Rattle.auditing.proofs.Outcomes.{finding-secret, finding-clash, search-none, search-found, audit-refused, audit-rejected, audit-searched}
-use Rattle.findings.specs.Findings.{Auditable, AllAccepted, Each, Scheme, Due, RoundUsed, Compared, IsCommitment, AreCompared, Agree, firstVector, RightRefusal, Right, IsFinding, Claim}
-use Rattle.findings.proofs.Numbers.{nine, front-number}
+use Rattle.findings.specs.Findings.{Auditable, AllAccepted, Each, AuditCase, ShouldFind, RoundUsed, caseDomain, Compared, IsCommitment, AreCompared, Agree, firstVector}
+use Rattle.findings.specs.Findings.{RightRefusal, Right, IsFinding, Claim}
+use Rattle.findings.proofs.Numbers.{nine, comparable-number}
 use Rattle.findings.proofs.Rejecting.{walk, all-accepted, none-rejected, first-rejected}
 use Rattle.findings.proofs.Strings.{Opened, opened-vectors}
 
 -- a record that is audited, every round of it accepted
-pub record Sound (scheme : ℕ) (system a b : List ℕ) : Type 0 where
+pub record Sound (scheme : Scheme) (system a b : List ℕ) : Type 0 where
   pub auditable : Auditable scheme system a b
   pub accepted : AllAccepted system b
 
 -- all the records are
-pub record AllSound (t : Scheme) : Type 0 where
+pub record AllSound (t : AuditCase) : Type 0 where
   pub good : systemRefusal (t .system) ≡ 0
   pub all-auditable : Each (Auditable (t .scheme) (t .system) (t .first)) (t .first ∷ t .others)
   pub all-accepted : Each (AllAccepted (t .system)) (t .first ∷ t .others)
 
 -- what the claim needs of a scheme; b, c, d are the records as the audit is given them
-pub record Laws (t : Scheme) (b c d : List ℕ) : Type 0 where
-  pub front-tells : Front (t .scheme) (t .system) (t .first) b c d → Each (Auditable (t .scheme) (t .system) (t .first)) (t .first ∷ t .others)
-  pub front-when : systemRefusal (t .system) ≡ 0 → Each (Auditable (t .scheme) (t .system) (t .first)) (t .first ∷ t .others) →
-      Front (t .scheme) (t .system) (t .first) b c d
+pub record Laws (t : AuditCase) (b c d : List ℕ) : Type 0 where
+  pub passed-tells : Passed (t .scheme) (t .system) (t .first) b c d → Each (Auditable (t .scheme) (t .system) (t .first)) (t .first ∷ t .others)
+  pub passed-when : systemRefusal (t .system) ≡ 0 → Each (Auditable (t .scheme) (t .system) (t .first)) (t .first ∷ t .others) →
+      Passed (t .scheme) (t .system) (t .first) b c d
   pub walked : rejectionOf (t .scheme) (t .system) (t .first) b c d ≡ walk (t .system) 1 (t .first ∷ t .others)
   pub full-tells : (r : ℕ) → fullSet (t .scheme) (t .first) b c d r ≡ true → t .Full r
   pub full-when : (r : ℕ) → t .Full r → fullSet (t .scheme) (t .first) b c d r ≡ true
   pub secret-solves : AllSound t → (r : ℕ) → r < headerIn (t .first) .rounds → t .Full r →
-      ((k : ℕ) → k < pairs (t .scheme) → samePair (t .scheme) (t .system) (t .first) b c d r k ≡ true) →
+      ((k : ℕ) → k < commitmentCount (t .scheme) → samePair (t .scheme) (t .system) (t .first) b c d r k ≡ true) →
       F (t .system) (secretOf (t .system) (answering (t .first) b c r 0) (answering (t .first) b c r 1) r) ≡ keyVector (t .first)
   pub secret-halves : (r : ℕ) → t .Full r → t .Halves r (answering (t .first) b c r 0) (answering (t .first) b c r 1)
-  pub pair-order : (r k : ℕ) → t .Full r → k < pairs (t .scheme) → t .Order r k (leftRecord (t .scheme) (t .first) b c r k) (rightRecord (t .scheme) (t .first) b c d r k)
+  pub pair-order : (r k : ℕ) → t .Full r → k < commitmentCount (t .scheme) → t .Order r k (leftRecord (t .scheme) (t .first) b c r k) (rightRecord (t .scheme) (t .first) b c d r k)
   pub left-sound : AllSound t → (r k : ℕ) → Sound (t .scheme) (t .system) (t .first) (leftRecord (t .scheme) (t .first) b c r k)
   pub right-sound : AllSound t → (r k : ℕ) → Sound (t .scheme) (t .system) (t .first) (rightRecord (t .scheme) (t .first) b c d r k)
-  pub left-opened : AllSound t → (r k : ℕ) → t .Full r → k < pairs (t .scheme) →
+  pub left-opened : AllSound t → (r k : ℕ) → t .Full r → k < commitmentCount (t .scheme) →
       let left = leftRecord (t .scheme) (t .first) b c r k in
-      Opened (t .scheme) (t .system) left r k (openingIn (t .system) left r k)
-  pub right-opened : AllSound t → (r k : ℕ) → t .Full r → k < pairs (t .scheme) →
+      Opened (caseDomain t) (t .system) left r k (openingIn (t .system) left r k)
+  pub right-opened : AllSound t → (r k : ℕ) → t .Full r → k < commitmentCount (t .scheme) →
       let right = rightRecord (t .scheme) (t .first) b c d r k in
-      Opened (t .scheme) (t .system) right r k (openingIn (t .system) right r k)
-  pub numbers : (k : ℕ) → IsCommitment t k → k < pairs (t .scheme)
+      Opened (caseDomain t) (t .system) right r k (openingIn (t .system) right r k)
+  pub numbers : (k : ℕ) → IsCommitment t k → k < commitmentCount (t .scheme)
   pub only-pair : AllSound t → (r k : ℕ) → t .Full r → (x y : List ℕ) (p : Compared t r k x y) →
-      (k < pairs (t .scheme)) × (p .left ≡ leftRecord (t .scheme) (t .first) b c r k) × (p .right ≡ rightRecord (t .scheme) (t .first) b c d r k)
+      (k < commitmentCount (t .scheme)) × (p .left ≡ leftRecord (t .scheme) (t .first) b c r k) × (p .right ≡ rightRecord (t .scheme) (t .first) b c d r k)
 
 -- ---- one commitment, opened in two ways
 
-same-commitments : (scheme : ℕ) (system a b : List ℕ) (r : ℕ) → Auditable scheme system a b → roundCommitments b r ≡ roundCommitments a r
+same-commitments : (scheme : Scheme) (system a b : List ℕ) (r : ℕ) → Auditable scheme system a b → roundCommitments b r ≡ roundCommitments a r
 unfolding roundCommitments
 same-commitments scheme system a b r k =
     ap₂ (λ (h : Header) (l : List ℕ). commitmentsOf h l r) (sym (k .same-header)) (sym (k .same-commitments))
 
 -- the opening of an accepted round hashes to the first record's commitment
-hashes-first : (scheme : ℕ) (system a b : List ℕ) (r k : ℕ) (x : List ℕ) → Sound scheme system a b → r < headerIn a .rounds → Opened scheme system b r k x →
-    sha256 x ≡ commitment (commitmentsIn (roundCommitments a r)) k
-hashes-first scheme system a b r k x s within o =
+hashes-first : (scheme : Scheme) (d : Domain) (system a b : List ℕ) (r k : ℕ) (x : List ℕ) → Sound scheme system a b → r < headerIn a .rounds →
+    Opened d system b r k x → sha256 x ≡ commitmentAt (roundCommitments a r) k
+hashes-first scheme d system a b r k x s within o =
     let below : r < headerIn b .rounds = subst (λ (h : Header). r < h .rounds) (s .auditable .same-header) within in
-    o .hashes (s .accepted r below) ∙ ap (λ (l : List ℕ). commitment (commitmentsIn l) k) (same-commitments scheme system a b r (s .auditable))
+    o .hashes (s .accepted r below) ∙ ap (λ (l : List ℕ). commitmentAt l k) (same-commitments scheme system a b r (s .auditable))
 
-differ-compared : (x y : List ℕ) → sameOpenings x y ≡ false → compared x ≡ compared y → ⊥
+vectors-differ : (d : Domain) (x y : List ℕ) → sameOpenings d x y ≡ false → vectorsIn d x ≡ vectorsIn d y → ⊥
 unfolding sameOpenings
-differ-compared x y differ e = false≢true (sym differ ∙ same-by (compared x) (compared y) e)
+vectors-differ d x y differ e = false≢true (sym differ ∙ same-by (vectorsIn d x) (vectorsIn d y) e)
 
 -- the openings that are compared agree
-pub same-compared : (scheme : ℕ) (system a b c d : List ℕ) (r k : ℕ) → samePair scheme system a b c d r k ≡ true →
-    compared (openingIn system (leftRecord scheme a b c r k) r k) ≡ compared (openingIn system (rightRecord scheme a b c d r k) r k)
+pub pair-agrees : (scheme : Scheme) (system a b c d : List ℕ) (r k : ℕ) → samePair scheme system a b c d r k ≡ true →
+    vectorsIn (domainIn a) (openingIn system (leftRecord scheme a b c r k) r k) ≡ vectorsIn (domainIn a) (openingIn system (rightRecord scheme a b c d r k) r k)
 unfolding samePair sameOpenings leftOpening rightOpening
-same-compared scheme system a b c d r k e = same-true _ _ e
+pair-agrees scheme system a b c d r k e = same-true _ _ e
 
-module _ (t : Scheme) (b c d : List ℕ) (laws : Laws t b c d) where
-  abbrev scheme : ℕ
+module _ (t : AuditCase) (b c d : List ℕ) (laws : Laws t b c d) where
+  abbrev scheme : Scheme
   scheme = t .scheme
 
   abbrev system : List ℕ
@@ -107,12 +111,12 @@ module _ (t : Scheme) (b c d : List ℕ) (laws : Laws t b c d) where
 
   -- k is the first pair that differs
   abbrev Differs : ℕ → ℕ → Type 0
-  Differs r k = FirstIs (pairs scheme) (λ j. not (samePair scheme system a b c d r j)) k
+  Differs r k = FirstIs (commitmentCount scheme) (λ j. not (samePair scheme system a b c d r j)) k
 
   -- ---- a finding
 
-  due : AllSound t → (r : ℕ) → Used r → Due t
-  due s r used =
+  should : AllSound t → (r : ℕ) → Used r → ShouldFind t
+  should s r used =
       record {
         system-well-formed = well-formed system (s .good);
         records-auditable = s .all-auditable;
@@ -131,7 +135,7 @@ module _ (t : Scheme) (b c d : List ℕ) (laws : Laws t b c d) where
       }
 
   -- commitment k of a round with the full set is opened in two ways
-  pair-at : AllSound t → (r k : ℕ) → t .Full r → k < pairs scheme → Compared t r k (leftOpening scheme system a b c r k) (rightOpening scheme system a b c d r k)
+  pair-at : AllSound t → (r k : ℕ) → t .Full r → k < commitmentCount scheme → Compared t r k (leftOpening scheme system a b c r k) (rightOpening scheme system a b c d r k)
   unfolding leftOpening rightOpening
   pair-at s r k full h =
       let left = laws .left-opened s r k full h in
@@ -142,29 +146,29 @@ module _ (t : Scheme) (b c d : List ℕ) (laws : Laws t b c d) where
         order = laws .pair-order r k full h;
         left-opens = left .opens;
         right-opens = right .opens;
-        left-vectors = compared (openingIn system (leftRecord scheme a b c r k) r k);
-        right-vectors = compared (openingIn system (rightRecord scheme a b c d r k) r k);
+        left-vectors = vectorsIn (caseDomain t) (openingIn system (leftRecord scheme a b c r k) r k);
+        right-vectors = vectorsIn (caseDomain t) (openingIn system (rightRecord scheme a b c d r k) r k);
         left-has = left .has;
         right-has = right .has;
       }
 
-  compared-at : AllSound t → (r k : ℕ) → t .Full r → k < pairs scheme → AreCompared t r k
+  compared-at : AllSound t → (r k : ℕ) → t .Full r → k < commitmentCount scheme → AreCompared t r k
   compared-at s r k full h = record { left-string = _; right-string = _; pair = pair-at s r k full h }
 
   -- and in no others: where the audit finds the same vectors, they agree
-  agree : AllSound t → (r k : ℕ) → t .Full r → (k < pairs scheme → samePair scheme system a b c d r k ≡ true) → Agree t r k
+  agree : AllSound t → (r k : ℕ) → t .Full r → (k < commitmentCount scheme → samePair scheme system a b c d r k ≡ true) → Agree t r k
   agree s r k full same x y p =
       let only = laws .only-pair s r k full x y p in
-      opened-vectors scheme system (p .left) _ r k x (p .left-vectors) (only .1) (p .left-opens) (p .left-has) (laws .left-opened s r k full (only .0)) ∙
-      same-compared scheme system a b c d r k (same (only .0)) ∙
-      sym (opened-vectors scheme system (p .right) _ r k y (p .right-vectors) (only .2) (p .right-opens) (p .right-has) (laws .right-opened s r k full (only .0)))
+      opened-vectors (caseDomain t) system (p .left) _ r k x (p .left-vectors) (only .1) (p .left-opens) (p .left-has) (laws .left-opened s r k full (only .0)) ∙
+      pair-agrees scheme system a b c d r k (same (only .0)) ∙
+      sym (opened-vectors (caseDomain t) system (p .right) _ r k y (p .right-vectors) (only .2) (p .right-opens) (p .right-has) (laws .right-opened s r k full (only .0)))
 
   secret-right : AllSound t → (r : ℕ) → Used r → firstClash scheme system a b c d r ≡ 0 → Right t (secretAt system a b c r)
   unfolding Right secretAt firstClash secretOf replyVector firstVector mapOf
   secret-right s r used none =
       let round = round-used r used in
-      let same : (k : ℕ) → k < pairs scheme → samePair scheme system a b c d r k ≡ true =
-      λ k h. not-false _ (where-none (pairs scheme) (λ j. not (samePair scheme system a b c d r j)) none k h)
+      let same : (k : ℕ) → k < commitmentCount scheme → samePair scheme system a b c d r k ≡ true =
+      λ k h. not-false _ (where-none (commitmentCount scheme) (λ j. not (samePair scheme system a b c d r j)) none k h)
       in
       record {
         is-vector = quadratic-map system (s .good) .groupX .add-is _ _;
@@ -188,11 +192,11 @@ module _ (t : Scheme) (b c d : List ℕ) (laws : Laws t b c d) where
         round = r;
         used = round;
         pair = pair-at s r k full (differs .within);
-        vectors-differ = differ-compared _ _ (not-true _ (differs .holds));
+        vectors-differ = vectors-differ _ _ _ (not-true _ (differs .holds));
         first-pair = λ j h. agree s r j full (λ _. not-false _ (differs .before j h));
         earlier-compared = λ j h. compared-at s r j full (omega (arith, h, differs .within));
-        left-hashes = hashes-first scheme system a _ r k _ (laws .left-sound s r k) (used .within) (laws .left-opened s r k full (differs .within));
-        right-hashes = hashes-first scheme system a _ r k _ (laws .right-sound s r k) (used .within) (laws .right-opened s r k full (differs .within));
+        left-hashes = hashes-first scheme _ system a _ r k _ (laws .left-sound s r k) (used .within) (laws .left-opened s r k full (differs .within));
+        right-hashes = hashes-first scheme _ system a _ r k _ (laws .right-sound s r k) (used .within) (laws .right-opened s r k full (differs .within));
       }
 
   finding-claim : AllSound t → (r : ℕ) → Used r → Claim t (findingAt scheme system a b c d r)
@@ -202,14 +206,14 @@ module _ (t : Scheme) (b c d : List ℕ) (laws : Laws t b c d) where
       go : (k : ℕ) → firstClash scheme system a b c d r ≡ k → Claim t (findingAt scheme system a b c d r)
       go zero none =
           subst (Claim t) (finding-secret scheme system a b c d r 0 (sym none) refl)
-          (record { found-when-due = λ q. tt; due-when-found = λ q. due s r used; right = secret-right s r used none })
+          (record { found-when-should = λ q. tt; should-when-found = λ q. should s r used; right = secret-right s r used none })
       go (suc k) some =
           let back : k ≡ suc k - 1 = omega arith in
           subst (Claim t) (ap (clashAt scheme system a b c d r) back ∙ finding-clash scheme system a b c d r (suc k) (sym some) (λ z. omega (arith, z)))
           (record {
-            found-when-due = λ q. tt;
-            due-when-found = λ q. due s r used;
-            right = clash-right s r used k (found-where (pairs scheme) _ k (some ∙ omega arith));
+            found-when-should = λ q. tt;
+            should-when-found = λ q. should s r used;
+            right = clash-right s r used k (found-where (commitmentCount scheme) _ k (some ∙ omega arith));
           })
 
   -- ---- every answer
@@ -222,8 +226,8 @@ module _ (t : Scheme) (b c d : List ℕ) (laws : Laws t b c d) where
       go zero none =
           subst (Claim t) (search-none scheme system a b c d 0 (sym none) refl)
           (record {
-            found-when-due = λ q. false≢true (sym (where-none (headerIn a .rounds) _ none (q .round) (q .round-in)) ∙ laws .full-when (q .round) (q .full));
-            due-when-found = λ q. absurd q;
+            found-when-should = λ q. false≢true (sym (where-none (headerIn a .rounds) _ none (q .round) (q .round-in)) ∙ laws .full-when (q .round) (q .full));
+            should-when-found = λ q. absurd q;
             right = inr (nine, refl, refl);
           })
       go (suc r) some =
@@ -232,38 +236,38 @@ module _ (t : Scheme) (b c d : List ℕ) (laws : Laws t b c d) where
           (finding-claim s r (found-where (headerIn a .rounds) _ r (some ∙ omega arith)))
 
   -- nothing is refused before the rounds are judged
-  judged-claim : frontRefusal scheme system a b c d ≡ 0 → Claim t (auditOf scheme system a b c d)
+  judged-claim : comparableRefusal scheme system a b c d ≡ 0 → Claim t (auditOf scheme system a b c d)
   unfolding IsFinding Right RightRefusal
-  judged-claim passed = go (walk system 1 (a ∷ t .others) .whose) refl
+  judged-claim none-before = go (walk system 1 (a ∷ t .others) .whose) refl
     where
       first : Rejection
       first = walk system 1 (a ∷ t .others)
 
       go : (whose : ℕ) → first .whose ≡ whose → Claim t (auditOf scheme system a b c d)
       go zero none =
-          let k = front scheme system a b c d passed in
-          let s : AllSound t = record { good = k .good; all-auditable = laws .front-tells k; all-accepted = all-accepted system 0 (a ∷ t .others) none } in
-          subst (Claim t) (audit-searched scheme system a b c d 0 first (sym passed) refl (sym (laws .walked)) none) (search-claim s)
+          let k = passed scheme system a b c d none-before in
+          let s : AllSound t = record { good = k .good; all-auditable = laws .passed-tells k; all-accepted = all-accepted system 0 (a ∷ t .others) none } in
+          subst (Claim t) (audit-searched scheme system a b c d 0 first (sym none-before) refl (sym (laws .walked)) none) (search-claim s)
       go (suc whose) some =
           let rejected : first .whose ≡ 0 → ⊥ = λ z. omega (arith, some, z) in
-          subst (Claim t) (audit-rejected scheme system a b c d 0 first (sym passed) refl (sym (laws .walked)) rejected)
+          subst (Claim t) (audit-rejected scheme system a b c d 0 first (sym none-before) refl (sym (laws .walked)) rejected)
           (record {
-            found-when-due = λ q. rejected (none-rejected system 1 (a ∷ t .others) (q .rounds-accepted));
-            due-when-found = λ q. absurd q;
+            found-when-should = λ q. rejected (none-rejected system 1 (a ∷ t .others) (q .rounds-accepted));
+            should-when-found = λ q. absurd q;
             right = inl (refl, first-rejected system (a ∷ t .others) rejected);
           })
 
   pub audit-claim : Claim t (auditOf scheme system a b c d)
   unfolding IsFinding Right RightRefusal
-  audit-claim = go (frontRefusal scheme system a b c d) refl
+  audit-claim = go (comparableRefusal scheme system a b c d) refl
     where
-      go : (number : ℕ) → frontRefusal scheme system a b c d ≡ number → Claim t (auditOf scheme system a b c d)
+      go : (number : ℕ) → comparableRefusal scheme system a b c d ≡ number → Claim t (auditOf scheme system a b c d)
       go zero none = judged-claim none
       go (suc number) some =
-          let refused-before : frontRefusal scheme system a b c d ≡ 0 → ⊥ = λ z. omega (arith, some, z) in
-          subst (Claim t) (audit-refused scheme system a b c d (frontRefusal scheme system a b c d) refl refused-before)
+          let refused-before : comparableRefusal scheme system a b c d ≡ 0 → ⊥ = λ z. omega (arith, some, z) in
+          subst (Claim t) (audit-refused scheme system a b c d (comparableRefusal scheme system a b c d) refl refused-before)
           (record {
-            found-when-due = λ q. refused-before (none-refused scheme system a b c d (laws .front-when (not-refused system (q .system-well-formed)) (q .records-auditable)));
-            due-when-found = λ q. absurd q;
-            right = inr (front-number scheme system a b c d refused-before, refl, refl);
+            found-when-should = λ q. refused-before (none-refused scheme system a b c d (laws .passed-when (not-refused system (q .system-well-formed)) (q .records-auditable)));
+            should-when-found = λ q. absurd q;
+            right = inr (comparable-number scheme system a b c d refused-before, refl, refl);
           })

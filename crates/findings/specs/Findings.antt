@@ -1,5 +1,5 @@
 -- Demand 3's first half: when an audit has a finding, and what a finding is. Said of the records' bytes. What it shares with the audit are the layout of a
--- record, by which its rounds are read, and the strings and the check of a round; how the audit searches, compares and answers is not used.
+-- record, by which its rounds are read, and the openings and the check of a round; how the audit searches, compares and answers is not used.
 use Prim.Native.Nat.{ℕ, _+_, _*_, _<_}
 use mathlib.Core.Path.{_≡_}
 use mathlib.Core.Bool.{true, false}
@@ -8,24 +8,24 @@ use mathlib.Core.List.{List, [], _∷_}
 use lib.ListN.{length}
 use Rattle.slices.specs.Slices.{_!_}
 use Rattle.sha256.specs.Sha256.{sha256}
+use Rattle.commitment.specs.declared.Domain.{Domain}
 use Rattle.commitment.specs.Commitment.{hashedString}
 use Rattle.field.specs.Vector.{addV, slotV}
 use Rattle.system.specs.System.{qOf, nOf, mOf, opsOf, F, WellFormedSystem}
 use Rattle.protocol.specs.Rounds.{IsX}
+use Rattle.scheme.specs.declared.Scheme.{Scheme}
+use Rattle.scheme.specs.declared.Scheme.the-variants.{ThreePass, FivePass}
 use Rattle.scheme.specs.Scheme.{commitmentsLength}
-use Rattle.round.specs.Pieces.{commitment}
-use Rattle.round.specs.ThreePass.{firstNumber, secondNumber, firstString, secondString}
-use Rattle.round.specs.FivePass.{openingFive}
-use Rattle.exchange.specs.Messages.{commitmentsIn, middleIn, replyThreeIn, replyFiveIn}
+use Rattle.round.specs.Openings.{Opening, stringOf, commitmentAt}
 use Rattle.record_form.specs.Record.{WellFormedRecord, headerIn, fieldsIn}
-use Rattle.transcript.specs.Transcript.{keyVector, roundCommitments, roundTurn, roundChallenge, roundReply, acceptedRound}
+use Rattle.transcript.specs.Transcript.{domainIn, keyVector, roundCommitments, roundTurn, roundChallenge, roundReply, roundOpenings, acceptedRound}
 use Rattle.auditing.specs.Outcome.{Outcome, secret, clash, refused}
 
 -- ---- when
 
 -- the record b beside the first, a: well-formed, of the scheme that the audit is for, with the system's q, n and m and the first record's header, key and
 -- commitments, so that none of 1 to 7 applies
-pub record Auditable (scheme : ℕ) (system a b : List ℕ) : Type 0 where
+pub record Auditable (scheme : Scheme) (system a b : List ℕ) : Type 0 where
   pub well-formed : WellFormedRecord b
   pub for-scheme : headerIn b .scheme ≡ scheme
   pub has-q : qOf system ≡ headerIn b .q
@@ -49,8 +49,8 @@ pub record FullFive (a b c d : List ℕ) (r : ℕ) : Type 0 where
   pub b-challenge : roundChallenge b r ≡ 1
   pub c-challenge : roundChallenge c r ≡ 0
   pub d-challenge : roundChallenge d r ≡ 1
-  pub ab-middle : roundTurn a r ≡ roundTurn b r
-  pub cd-middle : roundTurn c r ≡ roundTurn d r
+  pub ab-turn : roundTurn a r ≡ roundTurn b r
+  pub cd-turn : roundTurn c r ≡ roundTurn d r
   pub other-alpha : roundTurn a r ! 0 ≡ roundTurn c r ! 0 → ⊥
 
 -- ---- in which order
@@ -82,8 +82,8 @@ HalvesFive a b r x y = (x ≡ a) × (y ≡ b)
 
 -- ---- the audit of a scheme: its records, the full set in a round, the order of the two strings of commitment k, and whose replies have r0 and r1
 
-pub record Scheme : Type 1 where
-  pub scheme : ℕ
+pub record AuditCase : Type 1 where
+  pub scheme : Scheme
   pub system : List ℕ
   pub first : List ℕ
   pub others : List (List ℕ)
@@ -91,13 +91,29 @@ pub record Scheme : Type 1 where
   pub Order : ℕ → ℕ → List ℕ → List ℕ → Type 0
   pub Halves : ℕ → List ℕ → List ℕ → Type 0
 
-unfoldable pub threePass : List ℕ → List ℕ → List ℕ → List ℕ → Scheme
+unfoldable pub threePass : List ℕ → List ℕ → List ℕ → List ℕ → AuditCase
 threePass system a b c =
-    record { scheme = 3; system = system; first = a; others = b ∷ c ∷ []; Full = FullThree a b c; Order = OrderThree a b c; Halves = HalvesThree a b c }
+    record {
+      scheme = ThreePass;
+      system = system;
+      first = a;
+      others = b ∷ c ∷ [];
+      Full = FullThree a b c;
+      Order = OrderThree a b c;
+      Halves = HalvesThree a b c;
+    }
 
-unfoldable pub fivePass : List ℕ → List ℕ → List ℕ → List ℕ → List ℕ → Scheme
+unfoldable pub fivePass : List ℕ → List ℕ → List ℕ → List ℕ → List ℕ → AuditCase
 fivePass system a b c d =
-    record { scheme = 5; system = system; first = a; others = b ∷ c ∷ d ∷ []; Full = FullFive a b c d; Order = OrderFive a b c d; Halves = HalvesFive a b }
+    record {
+      scheme = FivePass;
+      system = system;
+      first = a;
+      others = b ∷ c ∷ d ∷ [];
+      Full = FullFive a b c d;
+      Order = OrderFive a b c d;
+      Halves = HalvesFive a b;
+    }
 
 -- each of the records
 pub data Each (P : List ℕ → Type 0) : List (List ℕ) → Type 0 where
@@ -105,7 +121,7 @@ pub data Each (P : List ℕ → Type 0) : List (List ℕ) → Type 0 where
   each : (b : List ℕ) (bs : List (List ℕ)) → P b → Each P bs → Each P (b ∷ bs)
 
 -- when there should be a finding: nothing is refused, and some round has the full set
-pub record Due (t : Scheme) : Type 0 where
+pub record ShouldFind (t : AuditCase) : Type 0 where
   pub system-well-formed : WellFormedSystem (t .system)
   pub records-auditable : Each (Auditable (t .scheme) (t .system) (t .first)) (t .first ∷ t .others)
   pub rounds-accepted : Each (AllAccepted (t .system)) (t .first ∷ t .others)
@@ -115,30 +131,36 @@ pub record Due (t : Scheme) : Type 0 where
 
 -- ---- what
 
--- x is the string with which the reply of round r of the record b opens commitment k
-pub data Opens (system b : List ℕ) (r k : ℕ) : List ℕ → Type 0 where
-  first-of-three : headerIn b .scheme ≡ 3 → k ≡ firstNumber (roundChallenge b r) →
-      Opens system b r k (firstString system (keyVector b) (roundChallenge b r) (replyThreeIn (nOf system) (mOf system) (roundReply b r)))
-  second-of-three : headerIn b .scheme ≡ 3 → k ≡ secondNumber (roundChallenge b r) →
-      Opens system b r k (secondString (nOf system) (mOf system) (roundChallenge b r) (replyThreeIn (nOf system) (mOf system) (roundReply b r)))
-  of-five : headerIn b .scheme ≡ 5 → k ≡ roundChallenge b r →
-      Opens system b r k (openingFive system (roundTurn b r ! 0) (keyVector b) (middleIn (nOf system) (mOf system) (roundTurn b r)) (roundChallenge b r)
-      (replyFiveIn (nOf system) (roundReply b r)))
+-- o is one of the list
+unfoldable pub IsOneOf : Opening → List Opening → Type 0
+IsOneOf o [] = ⊥
+IsOneOf o (p ∷ os) = (o ≡ p) ⊎ IsOneOf o os
+
+-- x is the string with which the reply of round r of the record b opens commitment k: that of one of the round's openings, by its scheme's definition
+pub record Opens (system b : List ℕ) (r k : ℕ) (x : List ℕ) : Type 0 where
+  pub opening : Opening
+  pub listed : IsOneOf opening (roundOpenings system b r)
+  pub number : opening .k ≡ k
+  pub string : x ≡ stringOf (domainIn b) opening
 
 -- x is "scheme byte .. the byte k .., 32 bytes ρ, then the vectors"
-pub record HasVectors (scheme k : ℕ) (x vectors : List ℕ) : Type 0 where
+pub record HasVectors (d : Domain) (k : ℕ) (x vectors : List ℕ) : Type 0 where
   pub ρ : List ℕ
   pub ρ-length : length ρ ≡ 32
-  pub hashed : x ≡ hashedString (record { scheme = scheme }) k ρ vectors
+  pub hashed : x ≡ hashedString d k ρ vectors
 
 -- "The first such round is used."
-pub record RoundUsed (t : Scheme) (r : ℕ) : Type 0 where
+pub record RoundUsed (t : AuditCase) (r : ℕ) : Type 0 where
   pub round-in : r < headerIn (t .first) .rounds
   pub full : t .Full r
   pub first-full : (j : ℕ) → j < r → t .Full j → ⊥
 
+-- what stands before ρ in the strings of the records, all of one header
+abbrev pub caseDomain : AuditCase → Domain
+caseDomain t = domainIn (t .first)
+
 -- "Openings are compared by their vectors": the two openings of commitment k that are compared in round r, their strings x and y, and the vectors of each
-pub record Compared (t : Scheme) (r k : ℕ) (x y : List ℕ) : Type 0 where
+pub record Compared (t : AuditCase) (r k : ℕ) (x y : List ℕ) : Type 0 where
   pub left : List ℕ
   pub right : List ℕ
   pub order : t .Order r k left right
@@ -146,41 +168,41 @@ pub record Compared (t : Scheme) (r k : ℕ) (x y : List ℕ) : Type 0 where
   pub right-opens : Opens (t .system) right r k y
   pub left-vectors : List ℕ
   pub right-vectors : List ℕ
-  pub left-has : HasVectors (t .scheme) k x left-vectors
-  pub right-has : HasVectors (t .scheme) k y right-vectors
+  pub left-has : HasVectors (caseDomain t) k x left-vectors
+  pub right-has : HasVectors (caseDomain t) k y right-vectors
 
 -- the round has a commitment k: "Commitments: 32 bytes each, 3 or 2 a round."
-abbrev pub IsCommitment : Scheme → ℕ → Type 0
+abbrev pub IsCommitment : AuditCase → ℕ → Type 0
 IsCommitment t k = k * 32 < commitmentsLength (t .scheme)
 
 -- two openings of commitment k are compared
-pub record AreCompared (t : Scheme) (r k : ℕ) : Type 0 where
+pub record AreCompared (t : AuditCase) (r k : ℕ) : Type 0 where
   pub left-string : List ℕ
   pub right-string : List ℕ
   pub pair : Compared t r k left-string right-string
 
 -- whichever are have equal vectors, "ρ ignored"
-abbrev pub Agree : Scheme → ℕ → ℕ → Type 0
+abbrev pub Agree : AuditCase → ℕ → ℕ → Type 0
 Agree t r k = (x y : List ℕ) (p : Compared t r k x y) → p .left-vectors ≡ p .right-vectors
 
 -- a true clash: one commitment of the round used with two openings whose vectors differ; "Both hash to commitment k of the round used."; "The first pair that
 -- differs is the finding"
-pub record TrueClash (t : Scheme) (k : ℕ) (x y : List ℕ) : Type 0 where
+pub record TrueClash (t : AuditCase) (k : ℕ) (x y : List ℕ) : Type 0 where
   pub round : ℕ
   pub used : RoundUsed t round
   pub pair : Compared t round k x y
   pub vectors-differ : pair .left-vectors ≡ pair .right-vectors → ⊥
   pub first-pair : (j : ℕ) → j < k → Agree t round j
   pub earlier-compared : (j : ℕ) → j < k → AreCompared t round j
-  pub left-hashes : sha256 x ≡ commitment (commitmentsIn (roundCommitments (t .first) round)) k
-  pub right-hashes : sha256 y ≡ commitment (commitmentsIn (roundCommitments (t .first) round)) k
+  pub left-hashes : sha256 x ≡ commitmentAt (roundCommitments (t .first) round) k
+  pub right-hashes : sha256 y ≡ commitmentAt (roundCommitments (t .first) round) k
 
 -- the first vector of a reply: "r0, t1, e1", "r1, t1, e1", "reply r0, ρ0", "reply r1, ρ1"
 unfoldable pub firstVector : List ℕ → List ℕ → ℕ → List ℕ
 firstVector system b r = slotV (nOf system) 0 (roundReply b r)
 
 -- a true secret: a vector s with F(s) = v, "v is the records' key"; "If none differs, the finding is s = r0 + r1"
-pub record TrueSecret (t : Scheme) (s : List ℕ) : Type 0 where
+pub record TrueSecret (t : AuditCase) (s : List ℕ) : Type 0 where
   pub is-vector : IsX (t .system) s
   pub solves : F (t .system) s ≡ keyVector (t .first)
   pub round : ℕ
@@ -210,12 +232,12 @@ pub record OneOf (l : List ℕ) (x : ℕ) : Type 0 where
   pub is : l ! place ≡ x
 
 -- 8 with the first rejected record and round, "both given"; "they are 0 in every other answer"
-unfoldable pub RightRefusal : Scheme → ℕ → ℕ → ℕ → Type 0
+unfoldable pub RightRefusal : AuditCase → ℕ → ℕ → ℕ → Type 0
 RightRefusal t number whose round =
     ((number ≡ 8) × FirstRejected (t .system) (t .first ∷ t .others) whose round) ⊎ (OneOf otherNumbers number × (whose ≡ 0) × (round ≡ 0))
 
 -- an answer is right: a true secret, a true clash, or a refusal with its number, its record and its round
-unfoldable pub Right : Scheme → Outcome → Type 0
+unfoldable pub Right : AuditCase → Outcome → Type 0
 Right t (secret s) = TrueSecret t s
 Right t (clash k x y) = TrueClash t k x y
 Right t (refused number whose round) = RightRefusal t number whose round
@@ -227,7 +249,7 @@ IsFinding (clash k x y) = Unit {0}
 IsFinding (refused number whose round) = ⊥
 
 -- demand 3's first half, of an audit's answer
-pub record Claim (t : Scheme) (o : Outcome) : Type 0 where
-  pub found-when-due : Due t → IsFinding o
-  pub due-when-found : IsFinding o → Due t
+pub record Claim (t : AuditCase) (o : Outcome) : Type 0 where
+  pub found-when-should : ShouldFind t → IsFinding o
+  pub should-when-found : IsFinding o → ShouldFind t
   pub right : Right t o

@@ -4,6 +4,8 @@ use mathlib.Core.Bool.{Bool, cond, not, _&&_}
 use mathlib.Core.List.{List}
 use lib.Dec.{eqb}
 use Rattle.slices.specs.Slices.{_!_, same}
+use Rattle.scheme.specs.declared.Scheme.{Scheme}
+use Rattle.scheme.specs.declared.Scheme.the-variants.{ThreePass, FivePass}
 use Rattle.record_form.specs.Record.{headerIn}
 use Rattle.transcript.specs.Transcript.{roundTurn, roundChallenge, firstWhere}
 
@@ -27,9 +29,10 @@ unfoldable pub fullFive : List ℕ → List ℕ → List ℕ → List ℕ → �
 fullFive a b c d r = askedBoth a b r && (askedBoth c d r && not (eqb (roundTurn a r ! 0) (roundTurn c r ! 0)))
 
 -- "Full set in a round"; scheme 3 has no fourth record
-unfoldable pub fullSet : ℕ → List ℕ → List ℕ → List ℕ → List ℕ → ℕ → Bool
-fullSet scheme a b c d r = cond (eqb scheme 3) (fullThree a b c r) (fullFive a b c d r)
+unfoldable pub fullSet : Scheme → List ℕ → List ℕ → List ℕ → List ℕ → ℕ → Bool
+fullSet ThreePass a b c d r = fullThree a b c r
+fullSet FivePass a b c d r = fullFive a b c d r
 
 -- "The first such round is used."
-unfoldable pub firstFull : ℕ → List ℕ → List ℕ → List ℕ → List ℕ → ℕ
+unfoldable pub firstFull : Scheme → List ℕ → List ℕ → List ℕ → List ℕ → ℕ
 firstFull scheme a b c d = firstWhere (headerIn a .rounds) (fullSet scheme a b c d)

@@ -2,6 +2,7 @@
 //
 // Nothing here refuses: whoever calls has read the records. Scheme 3 has no fourth record, and `d` is not looked at there.
 use record::header_of;
+use scheme::Scheme;
 use slices::byte_at;
 use slices::equal;
 use transcript::round_challenge;
@@ -75,18 +76,17 @@ fn full_five<'a>(a: &'a [u8], b: &'a [u8], c: &'a [u8], d: &'a [u8], r: u8) -> b
 }
 
 // Whether a round has the full set of its scheme.
-fn full_set<'a>(scheme: u8, a: &'a [u8], b: &'a [u8], c: &'a [u8], d: &'a [u8], r: u8) -> bool
+fn full_set<'a>(scheme: Scheme, a: &'a [u8], b: &'a [u8], c: &'a [u8], d: &'a [u8], r: u8) -> bool
     ensures { λ t. ⌜ t ≡ fullSet scheme (now (a .entry)) (now (b .entry)) (now (c .entry)) (now (d .entry)) r ⌝ }
 {
-    if scheme == 3 {
-        full_three(a, b, c, r)
-    } else {
-        full_five(a, b, c, d, r)
+    match scheme {
+        Scheme::ThreePass => full_three(a, b, c, r),
+        Scheme::FivePass => full_five(a, b, c, d, r),
     }
 }
 
 // The first round with a full set, counted from 1; 0 where there is none.
-pub fn first_full<'a>(scheme: u8, a: &'a [u8], b: &'a [u8], c: &'a [u8], d: &'a [u8]) -> u8
+pub fn first_full<'a>(scheme: Scheme, a: &'a [u8], b: &'a [u8], c: &'a [u8], d: &'a [u8]) -> u8
     ensures { λ r. ⌜ r ≡ firstFull scheme (now (a .entry)) (now (b .entry)) (now (c .entry)) (now (d .entry)) ⌝ }
 {
     let rounds = header_of(a).rounds;

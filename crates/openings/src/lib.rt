@@ -1,7 +1,9 @@
 // What the reply of a round opens: the hashed strings, their comparison, and the secret that two replies give.
 //
 // Nothing here refuses: whoever calls has checked the system and read the records.
+use commitment::Domain;
 use commitment::Text;
+use commitment::vectors_at;
 use exchange::read_middle;
 use exchange::read_reply_five;
 use exchange::read_reply_three;
@@ -13,47 +15,74 @@ use round::first_number;
 use round::first_opening;
 use round::opening_five;
 use round::second_opening;
+use scheme::Scheme;
 use slices::byte_at;
 use slices::equal;
 use slices::part;
+use transcript::domain_in;
 use transcript::key_vector;
 use transcript::round_challenge;
-use transcript::round_turn;
 use transcript::round_reply;
+use transcript::round_turn;
 ghost use mathlib.Core.Path.{_≡_};
-ghost use Prim.Native.Nat.{_≤_};
-ghost use lib.ListN.{take};
 ghost use Rattle.system.specs.System.{systemRefusal};
-ghost use Rattle.commitment.specs.Held.{text};
-ghost use Rattle.openings.specs.Openings.{openingThree, openingFiveIn, openingIn, sameOpenings, replyVector, secretOf};
+ghost use Rattle.scheme.specs.declared.Scheme.the-variants.{ThreePass, FivePass};
+ghost use Rattle.commitment.specs.Texts.{content, TextOf};
+ghost use Rattle.round.specs.Openings.{stringOf, openingOf};
+ghost use Rattle.round.specs.ThreePass.{openingsThree};
+ghost use Rattle.record_form.specs.Record.{headerIn};
+ghost use Rattle.openings.specs.Openings.{openingIn, sameOpenings, replyVector, secretOf};
 
 // Three passes: the string with which a reply opens commitment k.
-fn opening_three(system: &[u8], v: [u8; 96], challenge: u8, reply: ReplyThree, k: u8) -> Text
+fn opening_three(
+    system: &[u8],
+    d: Domain,
+    v: [u8; 96],
+    challenge: u8,
+    reply: ReplyThree,
+    k: u8,
+) -> Text
     requires { ⌜ systemRefusal (now system) ≡ 0 ⌝ }
-    ensures { λ r. ⌜ (r ≡ text (openingThree (now (system .entry)) v challenge reply k)) × (r .len ≤ 322) ⌝ }
+    ensures { λ t. ⌜ TextOf (stringOf d (openingOf k (openingsThree (now (system .entry)) v challenge reply))) 0 t ⌝ }
 {
-    let n = byte_at(system, 1);
-    let m = byte_at(system, 2);
     if k == first_number(challenge) {
-        first_opening(system, v, challenge, reply)
+        first_opening(system, d, v, challenge, reply)
     } else {
-        second_opening(n, m, challenge, reply)
+        second_opening(system, d, challenge, reply)
     }
 }
 
-// Five passes: the string with which a round opens the one commitment that its challenge opens.
-fn opening_five_in<'a>(system: &'a [u8], bytes: &'a [u8], r: u8) -> Text
-    requires { ⌜ systemRefusal (now system) ≡ 0 ⌝ }
-    ensures { λ t. ⌜ (t ≡ text (openingFiveIn (now (system .entry)) (now (bytes .entry)) r)) × (t .len ≤ 322) ⌝ }
+// Three passes: the string with which a round of a record opens commitment k.
+fn opening_three_in<'a>(system: &'a [u8], bytes: &'a [u8], r: u8, k: u8) -> Text
+    requires { ⌜ (systemRefusal (now system) ≡ 0) × (headerIn (now bytes) .scheme ≡ ThreePass) ⌝ }
+    ensures { λ t. ⌜ TextOf (openingIn (now (system .entry)) (now (bytes .entry)) r k) 0 t ⌝ }
 {
     let n = byte_at(system, 1);
     let m = byte_at(system, 2);
-    let middle = round_turn(bytes, r);
+    opening_three(
+        system,
+        domain_in(bytes),
+        key_vector(bytes),
+        round_challenge(bytes, r),
+        read_reply_three(round_reply(bytes, r), n, m),
+        k,
+    )
+}
+
+// Five passes: a round opens one commitment, by its challenge.
+fn opening_five_in<'a>(system: &'a [u8], bytes: &'a [u8], r: u8, k: u8) -> Text
+    requires { ⌜ (systemRefusal (now system) ≡ 0) × (headerIn (now bytes) .scheme ≡ FivePass) ⌝ }
+    ensures { λ t. ⌜ TextOf (openingIn (now (system .entry)) (now (bytes .entry)) r k) 0 t ⌝ }
+{
+    let n = byte_at(system, 1);
+    let m = byte_at(system, 2);
+    let turn = round_turn(bytes, r);
     opening_five(
         system,
-        byte_at(middle, 0),
+        domain_in(bytes),
+        byte_at(turn, 0),
         key_vector(bytes),
-        read_middle(middle, n, m),
+        read_middle(turn, n, m),
         round_challenge(bytes, r),
         read_reply_five(round_reply(bytes, r), n),
     )
@@ -62,33 +91,26 @@ fn opening_five_in<'a>(system: &'a [u8], bytes: &'a [u8], r: u8) -> Text
 // The string with which a round of a record opens commitment k.
 pub fn opening<'a>(system: &'a [u8], bytes: &'a [u8], r: u8, k: u8) -> Text
     requires { ⌜ systemRefusal (now system) ≡ 0 ⌝ }
-    ensures { λ t. ⌜ (t ≡ text (openingIn (now (system .entry)) (now (bytes .entry)) r k)) × (t .len ≤ 322) ⌝ }
+    ensures { λ t. ⌜ TextOf (openingIn (now (system .entry)) (now (bytes .entry)) r k) 0 t ⌝ }
 {
-    let n = byte_at(system, 1);
-    let m = byte_at(system, 2);
-    let reply = read_reply_three(round_reply(bytes, r), n, m);
-    if header_of(bytes).scheme == 3 {
-        opening_three(
-            system,
-            key_vector(bytes),
-            round_challenge(bytes, r),
-            reply,
-            k,
-        )
-    } else {
-        opening_five_in(system, bytes, r)
+    let h = header_of(bytes);
+    let scheme = h.scheme;
+    match scheme {
+        Scheme::ThreePass => opening_three_in(system, bytes, r, k),
+        Scheme::FivePass => opening_five_in(system, bytes, r, k),
     }
 }
 
 // Whether two strings hold the same vectors; ρ is not looked at.
-pub fn same_openings(x: Text, y: Text) -> bool
-    ensures { λ r. ⌜ r ≡ sameOpenings (take (x .len) (x .bytes)) (take (y .len) (y .bytes)) ⌝ }
+pub fn same_openings(d: Domain, x: Text, y: Text) -> bool
+    ensures { λ r. ⌜ r ≡ sameOpenings d (content x) (content y) ⌝ }
 {
     let first = x.bytes;
     let second = y.bytes;
+    let at = vectors_at(d);
     equal(
-        part(part(&first, 0, x.len), 34, 288),
-        part(part(&second, 0, y.len), 34, 288),
+        part(part(&first, 0, x.len), at, x.len),
+        part(part(&second, 0, y.len), at, y.len),
     )
 }
 

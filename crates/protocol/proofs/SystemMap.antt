@@ -6,13 +6,12 @@ use mathlib.Core.List.{List}
 use native.Mathlib.Nat.{lt-of-not-le}
 use native.Mathlib.Decide.{decLe}
 use Rattle.slices.specs.Slices.{_!_}
-use Rattle.slices.proofs.Tabulate.{tabulate-beyond}
 use Rattle.field.specs.Ops.{Ops, isField}
 use Rattle.field.specs.Field.{Ring, Field}
 use Rattle.field.specs.Vector.{vector, IsVector, addV, subV, mulV}
 use Rattle.field.proofs.Fields.{ring, field}
 use Rattle.field.proofs.Sums.{add-mul, sub-of, mul-cancel}
-use Rattle.field.proofs.Vectors.{vector-at, vector-beyond, vector-cong}
+use Rattle.field.proofs.Vectors.{length-vector, vector-at, vector-beyond, vector-cong, element-at}
 use Rattle.system.specs.System.{qOf, nOf, mOf, opsOf, quadratic, linear, F}
 use Rattle.polynomials.proofs.Forms.{polynomial-below}
 use Rattle.polynomials.proofs.Laws.{F-add, G-add-left, G-mul}
@@ -35,18 +34,13 @@ module _ (o : Ops) (k : Ring o) where
 
   module _ (n : ℕ) where
     pub is-vector : (f : ℕ → ℕ) → ((i : ℕ) → i < n → f i < size) → IsVector o n (vector n f)
-    unfolding vector
     is-vector f below =
         record {
           padded = vector-cong n f _ (λ i h l. sym (vector-at n f i h l));
-          elements = λ i.
+          elements = λ i inside.
               elim (decLe n i) [
                 | yes h ↦ rw (vector-beyond n f i h) (k .zero-below)
-                | no h ↦
-                    elim (decLe 96 i) [
-                      | yes l ↦ rw (tabulate-beyond 96 _ i l) (k .zero-below)
-                      | no l ↦ rw (vector-at n f i (lt-of-not-le h) (lt-of-not-le l)) (below i (lt-of-not-le h))
-                    ]
+                | no h ↦ rw (vector-at n f i (lt-of-not-le h) (rw (length-vector n f) at inside)) (below i (lt-of-not-le h))
               ];
         }
 
@@ -62,7 +56,7 @@ module _ (o : Ops) (k : Ring o) where
           sub-is = λ x y. is-vector _ (λ i h. k .sub-below _ _);
           add-assoc = λ x y z. vector-cong n _ _ (λ i h l. simp vector-at (k .add-assoc (x ! i) (y ! i) (z ! i)));
           add-comm = λ x y. vector-cong n _ _ (λ i h l. k .add-comm (x ! i) (y ! i));
-          sub-add = λ x y hx. vector-cong n _ _ (λ i h l. simp vector-at (k .sub-add (x ! i) (y ! i) (hx .elements i))) ∙ sym (hx .padded);
+          sub-add = λ x y hx. vector-cong n _ _ (λ i h l. simp vector-at (k .sub-add (x ! i) (y ! i) (element-at o n x hx i))) ∙ sym (hx .padded);
         }
 
     mulV-add : (a : ℕ) (x y : List ℕ) → mulV o n a (addV o n x y) ≡ addV o n (mulV o n a x) (mulV o n a y)
@@ -86,7 +80,7 @@ cancelV : (o : Ops) → Field o → (n a b : ℕ) → a < o .size → b < o .siz
 unfolding subV mulV
 cancelV o f n a b ha hb differ x y hx hy e =
     same-vector o (f .ring) n x y hx hy (λ i h l.
-    cancel-difference o f a b (x ! i) (y ! i) ha hb differ (hx .elements i) (hy .elements i) (simp vector-at at (ap (λ (t : List ℕ). t ! i) e)))
+    cancel-difference o f a b (x ! i) (y ! i) ha hb differ (element-at o n x hx i) (element-at o n y hy i) (simp vector-at at (ap (λ (t : List ℕ). t ! i) e)))
 
 -- a system of at most 96 unknowns over a field is a quadratic map
 pub system-map : (b : List ℕ) → isField (qOf b) ≡ true → nOf b ≤ 96 → QuadraticMap (mapOf b) (IsX b) (IsY b) (IsScalar b)

@@ -7,15 +7,18 @@ use native.Mathlib.Omega.{arith}
 use lib.Dec.{leb}
 use lib.ListN.{length, take, drop, length-append, length-drop}
 use lib.Seq.{length-take-le, take-all, take-add, take-at, drop-at}
-use borrow.Author.Tests.{leb-true, le-leb, eq-eqb}
+use borrow.Author.Tests.{leb-true, le-leb, eq-eqb, eqb-true}
 use Rattle.slices.specs.Slices.{_!_, same}
 use Rattle.slices.proofs.Sameness.{same-true, same-by}
 use Rattle.refusal.proofs.Refusals.{first-zero, later-zero, test-holds, equal-holds, both-zero, unless-holds}
 use Rattle.field.specs.Vector.{allBelow}
+use Rattle.scheme.specs.Scheme.{byteOf, schemeOf, isScheme}
+use Rattle.scheme.proofs.Bytes.{decoded, is-scheme}
 use Rattle.system.proofs.SystemLayout.{all-below-at, at-all-below}
 use Rattle.record_form.specs.declared.layout.Header.{Header}
 use Rattle.record_form.specs.declared.form.Check.the-variants.{FileOrder}
-use Rattle.record_form.specs.Record.{commitmentsLength, exchangesLength, layoutOf, recordLength, word, entry, table, head, Fields, written, Valid, WellFormedRecord, headerIn, bodyIn, fieldsIn}
+use Rattle.record_form.specs.Record.{commitmentsBody, exchangesBody, layoutOf, recordLength, word, entry, table, head, Fields, written, Valid, WellFormedRecord}
+use Rattle.record_form.specs.Record.{headerIn, bodyIn, fieldsIn}
 use Rattle.record_form.specs.Form.{areValues, exchangesRefusal}
 use Rattle.record.specs.Reader.{recordRefusal}
 use Rattle.record_form.proofs.ValidForm.{values, values-true, header-values-of, valid-in-order, each-zero}
@@ -25,6 +28,7 @@ use Rattle.record_form.proofs.ValidForm.{values, values-true, header-values-of,
 pub record Accepted (b : List ℕ) : Type 0 where
   pub size : 30 ≤ length b
   pub edition : b ! 0 ≡ 1
+  pub scheme-value : isScheme (b ! 1) ≡ true
   pub header-values : areValues (headerIn b) ≡ true
   pub table-bytes : take 24 (drop 6 b) ≡ table (headerIn b)
   pub whole : length b ≡ recordLength (headerIn b)
@@ -36,13 +40,15 @@ unfolding recordRefusal
 accepted b none =
     let after-size = later-zero _ _ none in
     let after-edition = later-zero _ _ after-size in
-    let after-values = later-zero _ _ after-edition in
+    let after-scheme = later-zero _ _ after-edition in
+    let after-values = later-zero _ _ after-scheme in
     let after-table = later-zero _ _ after-values in
     let after-whole = later-zero _ _ after-table in
     record {
       size = leb-true 30 (length b) (test-holds (leb 30 (length b)) 6 tt (first-zero _ _ none));
       edition = equal-holds (b ! 0) 1 6 tt (first-zero _ _ after-size);
-      header-values = test-holds (areValues (headerIn b)) 1 tt (first-zero _ _ after-edition);
+      scheme-value = test-holds (isScheme (b ! 1)) 1 tt (first-zero _ _ after-edition);
+      header-values = test-holds (areValues (headerIn b)) 1 tt (first-zero _ _ after-scheme);
       table-bytes = same-true _ _ (test-holds (same (take 24 (drop 6 b)) (table (headerIn b))) 6 tt (first-zero _ _ after-values));
       whole = equal-holds (length b) (recordLength (headerIn b)) 6 tt (first-zero _ _ after-table);
       key-below = test-holds (allBelow (headerIn b .q) (fieldsIn b .key)) 3 tt (first-zero _ _ after-whole);
@@ -54,22 +60,27 @@ unfolding recordRefusal
 none-refused b k =
     both-zero _ _ (unless-holds _ 6 (le-leb 30 (length b) (k .size)))
     (both-zero _ _ (unless-holds _ 6 (eq-eqb (b ! 0) 1 (k .edition)))
+    (both-zero _ _ (unless-holds _ 1 (k .scheme-value))
     (both-zero _ _ (unless-holds _ 1 (k .header-values))
     (both-zero _ _ (unless-holds _ 6 (same-by _ _ (k .table-bytes)))
     (both-zero _ _ (unless-holds _ 6 (eq-eqb (length b) (recordLength (headerIn b)) (k .whole)))
-    (both-zero _ _ (unless-holds _ 3 (k .key-below)) (k .exchanges-good))))))
+    (both-zero _ _ (unless-holds _ 3 (k .key-below)) (k .exchanges-good)))))))
 
 -- ---- the record of its fields
 
-first-six : (b : List ℕ) → 30 ≤ length b → b ! 0 ≡ 1 → take 6 b ≡ head (headerIn b)
+scheme-byte : (byte : ℕ) → isScheme byte ≡ true → byteOf (schemeOf byte) ≡ byte
+unfolding isScheme
+scheme-byte byte is = eqb-true _ _ is
+
+first-six : (b : List ℕ) → 30 ≤ length b → b ! 0 ≡ 1 → byteOf (schemeOf (b ! 1)) ≡ b ! 1 → take 6 b ≡ head (headerIn b)
 unfolding head headerIn
-first-six (x0 ∷ x1 ∷ x2 ∷ x3 ∷ x4 ∷ x5 ∷ b) h e = ap (λ (x : ℕ). x ∷ x1 ∷ x2 ∷ x3 ∷ x4 ∷ x5 ∷ []) e
-first-six [] h e = absurd (omega arith)
-first-six (x0 ∷ []) h e = absurd (omega arith)
-first-six (x0 ∷ x1 ∷ []) h e = absurd (omega arith)
-first-six (x0 ∷ x1 ∷ x2 ∷ []) h e = absurd (omega arith)
-first-six (x0 ∷ x1 ∷ x2 ∷ x3 ∷ []) h e = absurd (omega arith)
-first-six (x0 ∷ x1 ∷ x2 ∷ x3 ∷ x4 ∷ []) h e = absurd (omega arith)
+first-six (x0 ∷ x1 ∷ x2 ∷ x3 ∷ x4 ∷ x5 ∷ b) h e s = ap₂ (λ (x y : ℕ). x ∷ y ∷ x2 ∷ x3 ∷ x4 ∷ x5 ∷ []) e (sym s)
+first-six [] h e s = absurd (omega arith)
+first-six (x0 ∷ []) h e s = absurd (omega arith)
+first-six (x0 ∷ x1 ∷ []) h e s = absurd (omega arith)
+first-six (x0 ∷ x1 ∷ x2 ∷ []) h e s = absurd (omega arith)
+first-six (x0 ∷ x1 ∷ x2 ∷ x3 ∷ []) h e s = absurd (omega arith)
+first-six (x0 ∷ x1 ∷ x2 ∷ x3 ∷ x4 ∷ []) h e s = absurd (omega arith)
 
 -- every record that the reader accepts is the one that is made of its fields
 pub written-fields : (b : List ℕ) → recordRefusal b ≡ 0 → written (fieldsIn b) ≡ b
@@ -77,11 +88,11 @@ unfolding written fieldsIn layoutOf bodyIn recordLength
 written-fields b none =
     let k = accepted b none in
     let h = headerIn b in
-    let front = sym (take-add 6 24 b ∙ ap₂ (λ (s t : List ℕ). s ++ t) (first-six b (k .size) (k .edition)) (k .table-bytes)) in
+    let front = sym (take-add 6 24 b ∙ ap₂ (λ (s t : List ℕ). s ++ t) (first-six b (k .size) (k .edition) (scheme-byte (b ! 1) (k .scheme-value))) (k .table-bytes)) in
     let key = front-and 30 (h .m) (head h ++ table h) front in
-    let commitments = front-and (30 + h .m) (commitmentsLength h) _ key in
-    let exchanges = front-and (30 + h .m + commitmentsLength h) (exchangesLength h) _ commitments in
-    exchanges ∙ take-all (30 + h .m + commitmentsLength h + exchangesLength h) b (omega (arith, k .whole))
+    let commitments = front-and (30 + h .m) (commitmentsBody h) _ key in
+    let exchanges = front-and (30 + h .m + commitmentsBody h) (exchangesBody h) _ commitments in
+    exchanges ∙ take-all (30 + h .m + commitmentsBody h + exchangesBody h) b (omega (arith, k .whole))
   where
     front-and : (a n : ℕ) (done : List ℕ) → done ≡ take a b → done ++ take n (drop a b) ≡ take (a + n) b
     front-and a n done e = ap (λ (s : List ℕ). s ++ take n (drop a b)) e ∙ sym (take-add a n b)
@@ -95,14 +106,13 @@ valid-fields b none =
     let v = values h (k .header-values) in
     let s = v .sizes-value in
     record {
-      scheme-value = v .scheme-value;
       q-value = s .is-field;
       n-value = (s .n-low, s .n-high);
       m-value = (s .m-low, s .m-high);
       rounds-value = v .rounds-value;
       key-length = between 30 (h .m) (omega (arith, k .whole));
-      commitments-length = between (30 + h .m) (commitmentsLength h) (omega (arith, k .whole));
-      exchanges-length = between (30 + h .m + commitmentsLength h) (exchangesLength h) (omega (arith, k .whole));
+      commitments-length = between (30 + h .m) (commitmentsBody h) (omega (arith, k .whole));
+      exchanges-length = between (30 + h .m + commitmentsBody h) (exchangesBody h) (omega (arith, k .whole));
       key-elements = all-below-at (h .q) (fieldsIn b .key) (k .key-below);
       each-exchange = valid-in-order h (fieldsIn b .exchanges) (k .exchanges-good);
     }
@@ -131,7 +141,9 @@ body-between p body s a n before long =
 
 pub header-written : (f : Fields) → headerIn (written f) ≡ f .header
 unfolding headerIn written head
-header-written f = refl
+header-written f =
+    let h = f .header in
+    λ i. record { scheme = decoded (h .scheme) i; q = h .q; n = h .n; m = h .m; rounds = h .rounds }
 
 length-head : (h : Header) → length (head h) ≡ 6
 unfolding head
@@ -151,7 +163,7 @@ commitments-written : (f : Fields) → Valid f → bodyIn (layoutOf (f .header) 
 unfolding written layoutOf bodyIn
 commitments-written f v =
     let front = head (f .header) ++ table (f .header) in
-    body-between (front ++ f .key) (f .commitments) (f .exchanges) (30 + f .header .m) (commitmentsLength (f .header))
+    body-between (front ++ f .key) (f .commitments) (f .exchanges) (30 + f .header .m) (commitmentsBody (f .header))
     (length-append front (f .key) ∙ ap₂ _+_ (length-front (f .header)) (v .key-length)) (v .commitments-length)
 
 exchanges-written : (f : Fields) → Valid f → bodyIn (layoutOf (f .header) .exchanges) (written f) ≡ f .exchanges
@@ -159,9 +171,9 @@ unfolding written layoutOf bodyIn
 exchanges-written f v =
     let front = head (f .header) ++ table (f .header) in
     let before = front ++ f .key ++ f .commitments in
-    let after = 30 + f .header .m + commitmentsLength (f .header) in
-    ap (λ (l : List ℕ). take (exchangesLength (f .header)) (drop after l)) (sym (append-nil (before ++ f .exchanges))) ∙
-    body-between before (f .exchanges) [] after (exchangesLength (f .header))
+    let after = 30 + f .header .m + commitmentsBody (f .header) in
+    ap (λ (l : List ℕ). take (exchangesBody (f .header)) (drop after l)) (sym (append-nil (before ++ f .exchanges))) ∙
+    body-between before (f .exchanges) [] after (exchangesBody (f .header))
     (length-append (front ++ f .key) (f .commitments) ∙
     ap₂ _+_ (length-append front (f .key) ∙ ap₂ _+_ (length-front (f .header)) (v .key-length)) (v .commitments-length))
     (v .exchanges-length)
@@ -191,6 +203,10 @@ starts : (f : Fields) → written f ! 0 ≡ 1
 unfolding written head
 starts f = refl
 
+scheme-written : (f : Fields) → isScheme (written f ! 1) ≡ true
+unfolding written head
+scheme-written f = is-scheme (f .header .scheme)
+
 -- a record made of valid fields is not refused
 accepted-written : (f : Fields) → Valid f → Accepted (written f)
 accepted-written f v =
@@ -198,6 +214,7 @@ accepted-written f v =
     record {
       size = rw (length-written f v) (at-least (f .header));
       edition = starts f;
+      scheme-value = scheme-written f;
       header-values = ap areValues h ∙ values-true (f .header) (header-values-of f v);
       table-bytes = table-written f ∙ ap table (sym h);
       whole = length-written f v ∙ ap recordLength (sym h);

@@ -7,6 +7,7 @@ use lib.ListN.{length, take, drop}
 use Rattle.slices.specs.Slices.{_!_, same}
 use Rattle.refusal.specs.Refusal.{unless, _orElse_}
 use Rattle.field.specs.Vector.{allBelow}
+use Rattle.scheme.specs.Scheme.{isScheme}
 use Rattle.record_form.specs.declared.form.Check.the-variants.{FileOrder}
 use Rattle.record.specs.declared.Reading.{Reading}
 use Rattle.record.specs.declared.Reading.the-variants.{Good, Refused}
@@ -19,6 +20,7 @@ recordRefusal b =
     let h = headerIn b in
     unless (leb 30 (length b)) 6 orElse
     unless (eqb (b ! 0) 1) 6 orElse
+    unless (isScheme (b ! 1)) 1 orElse
     unless (areValues h) 1 orElse
     unless (same (take 24 (drop 6 b)) (table h)) 6 orElse
     unless (eqb (length b) (recordLength h)) 6 orElse

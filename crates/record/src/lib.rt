@@ -10,11 +10,13 @@ use record_form::Header;
 use record_form::Layout;
 use record_form::are_values;
 use record_form::exchanges_refusal;
+use record_form::header_from;
 use record_form::laid_out;
 use record_form::record_length;
 use record_form::table;
 use refusal::first;
 use refusal::unless;
+use scheme::is_scheme;
 use slices::byte_at;
 use slices::equal;
 use slices::part;
@@ -34,13 +36,13 @@ pub enum Reading {
 pub fn header_of(bytes: &[u8]) -> Header
     ensures { λ r. ⌜ r ≡ headerIn (now (bytes .entry)) ⌝ }
 {
-    Header {
-        scheme: byte_at(bytes, 1),
-        q: byte_at(bytes, 2),
-        n: byte_at(bytes, 3),
-        m: byte_at(bytes, 4),
-        rounds: byte_at(bytes, 5),
-    }
+    header_from(
+        byte_at(bytes, 1),
+        byte_at(bytes, 2),
+        byte_at(bytes, 3),
+        byte_at(bytes, 4),
+        byte_at(bytes, 5),
+    )
 }
 
 // The bytes of a body, as many as there are.
@@ -58,29 +60,36 @@ fn table_matches(bytes: &[u8], h: Header) -> bool
     equal(part(bytes, 6, 24), part(&expected, 0, 24))
 }
 
-// The refusal of a record's bytes, 0 for none.
+// The refusal of a record's bytes, 0 for none; it ends at the first.
 fn record_refusal(bytes: &[u8]) -> u8
     ensures { λ r. ⌜ r ≡ recordRefusal (now (bytes .entry)) ⌝ }
 {
     let h = header_of(bytes);
-    let l = laid_out(h);
-    let front = first(
+    let edition = first(
         unless(30 <= bytes.len(), 6),
         unless(byte_at(bytes, 0) == 1, 6),
     );
-    let whole = first(
+    let values = first(
+        unless(is_scheme(byte_at(bytes, 1)), 1),
+        unless(are_values(h), 1),
+    );
+    let in_header = first(edition, values);
+    if in_header != 0 {
+        return in_header;
+    }
+    let in_table = first(
         unless(table_matches(bytes, h), 6),
         unless(bytes.len() == record_length(h), 6),
     );
-    let key = unless(all_below(h.q, body_of(bytes, l.key)), 3);
-    let exchanges = exchanges_refusal(Check::FileOrder, h, body_of(bytes, l.exchanges));
-    first(
-        front,
-        first(
-            unless(are_values(h), 1),
-            first(whole, first(key, exchanges)),
-        ),
-    )
+    if in_table != 0 {
+        return in_table;
+    }
+    let l = laid_out(h);
+    let in_key = unless(all_below(h.q, body_of(bytes, l.key)), 3);
+    if in_key != 0 {
+        return in_key;
+    }
+    exchanges_refusal(Check::FileOrder, h, body_of(bytes, l.exchanges))
 }
 
 // Reads a record: any bytes.

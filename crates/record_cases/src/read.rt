@@ -6,6 +6,7 @@ use record::Reading;
 use record_form::Body;
 use record_form::Layout;
 use record_form::word;
+use scheme::byte_of;
 use slices::equal;
 use slices::part;
 
@@ -37,10 +38,11 @@ fn is_filled(fill: u8, expected: Small) -> bool {
 // Is the answer expected that of a layout?
 fn is_layout(layout: Layout, expected: Small) -> bool {
     let header = layout.header;
+    let scheme = header.scheme;
     let bytes = expected.bytes;
     let numbers = [
         layout.edition,
-        header.scheme,
+        byte_of(scheme),
         header.q,
         header.n,
         header.m,

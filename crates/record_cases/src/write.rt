@@ -2,7 +2,6 @@
 use cases::Head;
 use cases::Outcome;
 use cases::Small;
-use record_form::Header;
 use slices::part;
 
 pub fn write_case(
@@ -19,7 +18,7 @@ pub fn write_case(
     rounds_case(
         file,
         head,
-        header_of(numbers),
+        numbers,
         key,
         part(commitments, 0, first.length),
         first.next,
@@ -33,7 +32,7 @@ pub fn write_case(
 fn rounds_case<'a>(
     file: &'a [u8],
     head: Head,
-    header: Header,
+    numbers: Small,
     key: Small,
     commitments: &'a [u8],
     at: usize,
@@ -45,7 +44,7 @@ fn rounds_case<'a>(
     let third = cases::load(file, second.next, expected);
     let agrees = written(
         head,
-        header,
+        numbers,
         key,
         commitments,
         part(exchanges, 0, second.length),
@@ -58,36 +57,29 @@ fn rounds_case<'a>(
     }
 }
 
-// Whether the writer answers the number, and leaves what is expected where the fill was.
+// Whether the writer answers the number, and leaves what is expected where the fill was; `numbers` are scheme, q, n, m, N.
 fn written<'a>(
     head: Head,
-    header: Header,
+    numbers: Small,
     key: Small,
     commitments: &'a [u8],
     exchanges: &'a [u8],
     expected: &'a [u8],
     out: &mut [u8],
 ) -> bool {
+    let values = numbers.bytes;
     let key_bytes = key.bytes;
     cases::fill(out, head.fill);
     let number = record_writer::write(
-        header,
+        values[0],
+        values[1],
+        values[2],
+        values[3],
+        values[4],
         part(&key_bytes, 0, key.length),
         commitments,
         exchanges,
         out,
     );
     number == head.number && cases::same_start(out, expected, expected.len())
-}
-
-// Scheme, q, n, m, N from the piece that holds them.
-fn header_of(numbers: Small) -> Header {
-    let bytes = numbers.bytes;
-    Header {
-        scheme: bytes[0],
-        q: bytes[1],
-        n: bytes[2],
-        m: bytes[3],
-        rounds: bytes[4],
-    }
 }

@@ -1,3 +1,4 @@
--- The checks pass exactly where header and exchanges are valid; a record's bodies are its rounds.
+-- The checks pass exactly where header and exchanges are valid; a record's bodies are its rounds; chains of refusals.
+pub mod Chains
 pub mod ValidForm
 pub mod Rounds

@@ -12,7 +12,7 @@ use lib.Seq.{length-take-le, take-all, take-add, take-at, drop-at, getD-at, take
 use Rattle.slices.specs.Slices.{_!_}
 use Rattle.scheme.specs.Scheme as S
 use Rattle.record_form.specs.declared.layout.Header.{Header}
-use Rattle.record_form.specs.Record.{Fields, Elements, commitmentsLength, exchangeLength, exchangesLength, Valid, ValidExchange}
+use Rattle.record_form.specs.Record.{Fields, Elements, commitmentsBody, exchangeLength, exchangesBody, Valid, ValidExchange}
 use Rattle.record_form.specs.Record.{commitmentsOf, exchangeOf, turnOf, challengeOf, replyOf, vectorsOf}
 use Rattle.record_form.specs.Rounds.{Round, exchangeBytes, joined, fieldsOfRounds, ValidRound, ValidRounds, roundOf}
 use Rattle.record_form.proofs.ValidForm.{values, values-true, header-values-of}
@@ -34,23 +34,23 @@ exchange-is-parts h x long =
 module _ (h : Header) (x : Round) (v : ValidRound h x) where
   length-exchange : length (exchangeBytes x) ≡ exchangeLength h
   unfolding exchangeBytes exchangeLength S.exchangeLength
-  length-exchange = length-append (x .middle) (x .challenge ∷ x .reply) ∙ omega (arith, v .middle-length, v .reply-length)
+  length-exchange = length-append (x .turn) (x .challenge ∷ x .reply) ∙ omega (arith, v .turn-length, v .reply-length)
 
-  middle-of : turnOf h (exchangeBytes x) ≡ x .middle
+  turn-of : turnOf h (exchangeBytes x) ≡ x .turn
   unfolding exchangeBytes turnOf
-  middle-of = take-at (x .middle) _ _ (v .middle-length)
+  turn-of = take-at (x .turn) _ _ (v .turn-length)
 
   challenge-of : challengeOf h (exchangeBytes x) ≡ x .challenge
   unfolding exchangeBytes challengeOf
-  challenge-of = getD-at (x .middle) (x .challenge) (x .reply) 0 _ (v .middle-length)
+  challenge-of = getD-at (x .turn) (x .challenge) (x .reply) 0 _ (v .turn-length)
 
   -- what stands behind the challenge
   behind : drop (S.turnLength (h .scheme) (h .n) (h .m) + 1) (exchangeBytes x) ≡ x .reply
   unfolding exchangeBytes
   behind =
       let k = S.turnLength (h .scheme) (h .n) (h .m) in
-      let front : length (x .middle ++ x .challenge ∷ []) ≡ k + 1 = length-append (x .middle) (x .challenge ∷ []) ∙ omega (arith, v .middle-length) in
-      ap (drop (k + 1)) (sym (append-snoc (x .middle) (x .challenge) (x .reply))) ∙ drop-at (x .middle ++ x .challenge ∷ []) (x .reply) (k + 1) front
+      let before : length (x .turn ++ x .challenge ∷ []) ≡ k + 1 = length-append (x .turn) (x .challenge ∷ []) ∙ omega (arith, v .turn-length) in
+      ap (drop (k + 1)) (sym (append-snoc (x .turn) (x .challenge) (x .reply))) ∙ drop-at (x .turn ++ x .challenge ∷ []) (x .reply) (k + 1) before
 
   reply-of : replyOf h (exchangeBytes x) ≡ x .reply
   unfolding replyOf
@@ -65,7 +65,7 @@ module _ (h : Header) (x : Round) (v : ValidRound h x) where
   valid-exchange-of : ValidExchange h (exchangeBytes x)
   valid-exchange-of =
       record {
-        middle-elements = subst (Elements (h .q)) (sym middle-of) (v .middle-elements);
+        turn-elements = subst (Elements (h .q)) (sym turn-of) (v .turn-elements);
         challenge-value = rw challenge-of (v .challenge-value);
         reply-elements = subst (Elements (h .q)) (sym vectors-of) (v .reply-elements);
       }
@@ -127,19 +127,18 @@ module _ (h : Header) (key : List ℕ) (round : ℕ → Round) (v : ValidRounds 
       let x = exchange-at r below in
       let w = v .each-round r below in
       let cs = commitments-at r below in
-      let middle = ap (turnOf h) x ∙ middle-of h (round r) w in
+      let turn = ap (turnOf h) x ∙ turn-of h (round r) w in
       let challenge = ap (challengeOf h) x ∙ challenge-of h (round r) w in
       let reply = ap (replyOf h) x ∙ reply-of h (round r) w in
-      λ i. record { commitments = cs i; middle = middle i; challenge = challenge i; reply = reply i }
+      λ i. record { commitments = cs i; turn = turn i; challenge = challenge i; reply = reply i }
 
   -- and such fields are valid
   pub rounds-valid : Valid (fieldsOfRounds h key round)
-  unfolding fieldsOfRounds commitmentsLength exchangesLength
+  unfolding fieldsOfRounds commitmentsBody exchangesBody
   rounds-valid =
       let k = values h (v .header-values) in
       let s = k .sizes-value in
       record {
-        scheme-value = k .scheme-value;
         q-value = s .is-field;
         n-value = (s .n-low, s .n-high);
         m-value = (s .m-low, s .m-high);
@@ -166,15 +165,15 @@ part-long each n l r long below =
 
 module _ (f : Fields) (v : Valid f) where
   exchange-long : (r : ℕ) → r < f .header .rounds → length (exchangeOf (f .header) (f .exchanges) r) ≡ exchangeLength (f .header)
-  unfolding exchangeOf exchangesLength
+  unfolding exchangeOf exchangesBody
   exchange-long r below = part-long (exchangeLength (f .header)) (f .header .rounds) (f .exchanges) r (v .exchanges-length) below
 
   commitments-whole : joined (f .header .rounds) (λ r. roundOf f r .commitments) ≡ f .commitments
-  unfolding roundOf commitmentsOf commitmentsLength
+  unfolding roundOf commitmentsOf commitmentsBody
   commitments-whole = body-is-parts (S.commitmentsLength (f .header .scheme)) (f .header .rounds) (f .commitments) (v .commitments-length)
 
   exchanges-whole : joined (f .header .rounds) (λ r. exchangeBytes (roundOf f r)) ≡ f .exchanges
-  unfolding roundOf exchangeBytes exchangeOf exchangesLength
+  unfolding roundOf exchangeBytes exchangeOf exchangesBody
   exchanges-whole =
       joined-same (f .header .rounds) _ _ (λ r below. exchange-is-parts (f .header) _ (exchange-long r below)) ∙
       body-is-parts (exchangeLength (f .header)) (f .header .rounds) (f .exchanges) (v .exchanges-length)
@@ -185,7 +184,7 @@ module _ (f : Fields) (v : Valid f) where
   fields-of = λ i. record { header = f .header; key = f .key; commitments = commitments-whole i; exchanges = exchanges-whole i }
 
   valid-round : (r : ℕ) → r < f .header .rounds → ValidRound (f .header) (roundOf f r)
-  unfolding roundOf commitmentsOf commitmentsLength turnOf replyOf vectorsOf exchangeLength S.exchangeLength S.replyLength
+  unfolding roundOf commitmentsOf commitmentsBody turnOf replyOf vectorsOf exchangeLength S.exchangeLength S.replyLength
   valid-round r below =
       let h = f .header in
       let x = exchangeOf h (f .exchanges) r in
@@ -195,9 +194,9 @@ module _ (f : Fields) (v : Valid f) where
       let valid = v .each-exchange r below in
       record {
         commitments-length = part-long (S.commitmentsLength (h .scheme)) (h .rounds) (f .commitments) r (v .commitments-length) below;
-        middle-length = length-take-le k x (omega (arith, long));
+        turn-length = length-take-le k x (omega (arith, long));
         reply-length = length-take-le n (drop (k + 1) x) (rw (length-drop (k + 1) x) (omega (arith, long)));
-        middle-elements = valid .middle-elements;
+        turn-elements = valid .turn-elements;
         challenge-value = valid .challenge-value;
         reply-elements =
             subst (Elements (h .q)) (sym (take-take (S.vectorsLength (h .scheme) (h .n) (h .m)) n (drop (k + 1) x) (omega arith))) (valid .reply-elements);

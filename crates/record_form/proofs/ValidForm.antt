@@ -1,7 +1,7 @@
 -- The checks of a record's form hold exactly where each value is among its values. Assumes nothing.
 use Prim.Native.Nat.{ℕ, _≤_, _<_}
 use mathlib.Core.Path.{_≡_}
-use mathlib.Core.Bool.{true, _&&_}
+use mathlib.Core.Bool.{true}
 use mathlib.Core.List.{List}
 use lib.Dec.{leb}
 use borrow.Author.Tests.{leb-true, ltb-true, le-leb, lt-ltb}
@@ -10,7 +10,7 @@ use Rattle.refusal.proofs.Refusals.{first-zero, later-zero, test-holds, both-ze
 use Rattle.field.specs.Vector.{allBelow}
 use Rattle.system.specs.System.{areSizes}
 use Rattle.system.proofs.SystemLayout.{Sizes, sizes, sizes-true, all-below-at, at-all-below}
-use Rattle.scheme.specs.Scheme.{isScheme, isRounds, challenges}
+use Rattle.scheme.specs.Scheme.{isRounds, challenges}
 use Rattle.record_form.specs.declared.layout.Header.{Header}
 use Rattle.record_form.specs.declared.form.Check.{Check}
 use Rattle.record_form.specs.declared.form.Check.the-variants.{FileOrder, Elements, Challenges}
@@ -20,18 +20,15 @@ use Rattle.record_form.specs.Form.{areValues, exchangeRefusal, exchanges
 -- ---- the header
 
 pub record Values (h : Header) : Type 0 where
-  pub scheme-value : isScheme (h .scheme) ≡ true
   pub sizes-value : Sizes (h .q) (h .n) (h .m)
   pub rounds-value : (1 ≤ h .rounds) × (h .rounds ≤ 255)
 
 pub values : (h : Header) → areValues h ≡ true → Values h
 unfolding areValues isRounds
 values h e =
-    let rest = and-right (isScheme (h .scheme)) (areSizes (h .q) (h .n) (h .m) && isRounds (h .rounds)) e in
-    let rounds = and-right (areSizes (h .q) (h .n) (h .m)) (isRounds (h .rounds)) rest in
+    let rounds = and-right (areSizes (h .q) (h .n) (h .m)) (isRounds (h .rounds)) e in
     record {
-      scheme-value = and-left (isScheme (h .scheme)) (areSizes (h .q) (h .n) (h .m) && isRounds (h .rounds)) e;
-      sizes-value = sizes (h .q) (h .n) (h .m) (and-left (areSizes (h .q) (h .n) (h .m)) (isRounds (h .rounds)) rest);
+      sizes-value = sizes (h .q) (h .n) (h .m) (and-left (areSizes (h .q) (h .n) (h .m)) (isRounds (h .rounds)) e);
       rounds-value = (
         leb-true 1 (h .rounds) (and-left (leb 1 (h .rounds)) (leb (h .rounds) 255) rounds),
         leb-true (h .rounds) 255 (and-right (leb 1 (h .rounds)) (leb (h .rounds) 255) rounds),
@@ -43,7 +40,6 @@ unfolding areValues isRounds
 values-true h v =
     let s = v .sizes-value in
     simp (
-      v .scheme-value,
       sizes-true (h .q) (h .n) (h .m) (s .is-field) (s .n-low, s .n-high) (s .m-low, s .m-high),
       le-leb 1 (h .rounds) (v .rounds-value .0),
       le-leb (h .rounds) 255 (v .rounds-value .1),
@@ -53,7 +49,6 @@ values-true h v =
 pub header-values-of : (f : Fields) → Valid f → Values (f .header)
 header-values-of f v =
     record {
-      scheme-value = v .scheme-value;
       sizes-value = record { is-field = v .q-value; n-low = v .n-value .0; n-high = v .n-value .1; m-low = v .m-value .0; m-high = v .m-value .1 };
       rounds-value = v .rounds-value;
     }
@@ -64,7 +59,7 @@ pub valid-parts : (h : Header) (x : List ℕ) → exchangeRefusal Elements h x �
 unfolding exchangeRefusal
 valid-parts h x e c =
     record {
-      middle-elements = all-below-at (h .q) (turnOf h x) (test-holds (allBelow (h .q) (turnOf h x)) 3 tt (first-zero _ _ e));
+      turn-elements = all-below-at (h .q) (turnOf h x) (test-holds (allBelow (h .q) (turnOf h x)) 3 tt (first-zero _ _ e));
       challenge-value = ltb-true (challengeOf h x) (challenges (h .scheme)) (test-holds _ 4 tt c);
       reply-elements = all-below-at (h .q) (vectorsOf h x) (test-holds (allBelow (h .q) (vectorsOf h x)) 3 tt (later-zero _ _ e));
     }
@@ -77,9 +72,9 @@ file-order-parts h x e = (both-zero _ _ (first-zero _ _ e) (later-zero _ _ (late
 pub valid-zero : (check : Check) (h : Header) (x : List ℕ) → ValidExchange h x → exchangeRefusal check h x ≡ 0
 unfolding exchangeRefusal
 valid-zero FileOrder h x v =
-    both-zero _ _ (unless-holds _ 3 (at-all-below _ _ (v .middle-elements)))
+    both-zero _ _ (unless-holds _ 3 (at-all-below _ _ (v .turn-elements)))
     (both-zero _ _ (unless-holds _ 4 (lt-ltb _ _ (v .challenge-value))) (unless-holds _ 3 (at-all-below _ _ (v .reply-elements))))
-valid-zero Elements h x v = both-zero _ _ (unless-holds _ 3 (at-all-below _ _ (v .middle-elements))) (unless-holds _ 3 (at-all-below _ _ (v .reply-elements)))
+valid-zero Elements h x v = both-zero _ _ (unless-holds _ 3 (at-all-below _ _ (v .turn-elements))) (unless-holds _ 3 (at-all-below _ _ (v .reply-elements)))
 valid-zero Challenges h x v = unless-holds _ 4 (lt-ltb _ _ (v .challenge-value))
 
 -- ---- the exchanges of all rounds

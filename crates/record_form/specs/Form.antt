@@ -6,15 +6,15 @@ use lib.Dec.{ltb}
 use Rattle.refusal.specs.Refusal.{unless, _orElse_, firstOf}
 use Rattle.field.specs.Vector.{allBelow}
 use Rattle.system.specs.System.{areSizes}
-use Rattle.scheme.specs.Scheme.{isScheme, isRounds, challenges}
+use Rattle.scheme.specs.Scheme.{isRounds, challenges}
 use Rattle.record_form.specs.declared.layout.Header.{Header}
 use Rattle.record_form.specs.declared.form.Check.{Check}
 use Rattle.record_form.specs.declared.form.Check.the-variants.{FileOrder, Elements, Challenges}
 use Rattle.record_form.specs.Record.{exchangeOf, turnOf, challengeOf, vectorsOf}
 
--- 1: "q, n, m, N or scheme outside its values"
+-- 1: "q, n, m, N or scheme outside its values"; the scheme is told by its byte (`isScheme`), before it is decoded
 unfoldable pub areValues : Header → Bool
-areValues h = isScheme (h .scheme) && (areSizes (h .q) (h .n) (h .m) && isRounds (h .rounds))
+areValues h = areSizes (h .q) (h .n) (h .m) && isRounds (h .rounds)
 
 -- "then 3 or 4, the first bad byte in file order", or one of the two alone
 unfoldable pub exchangeRefusal : Check → Header → List ℕ → ℕ

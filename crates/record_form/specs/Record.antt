@@ -14,16 +14,17 @@ use Rattle.record_form.specs.declared.layout.Layout.{Layout}
 
 -- ---- lengths
 
--- "Commitments: 32 bytes each, 3 or 2 a round."
-unfoldable pub commitmentsLength : Header → ℕ
-commitmentsLength h = h .rounds * S.commitmentsLength (h .scheme)
+-- "Commitments: 32 bytes each, 3 or 2 a round.": the body, of all rounds
+unfoldable pub commitmentsBody : Header → ℕ
+commitmentsBody h = h .rounds * S.commitmentsLength (h .scheme)
 
 -- the bytes of a round's exchange
 unfoldable pub exchangeLength : Header → ℕ
 exchangeLength h = S.exchangeLength (h .scheme) (h .n) (h .m)
 
-unfoldable pub exchangesLength : Header → ℕ
-exchangesLength h = h .rounds * exchangeLength h
+-- and of all rounds
+unfoldable pub exchangesBody : Header → ℕ
+exchangesBody h = h .rounds * exchangeLength h
 
 -- "Bodies follow in that order without gaps from offset 30. Key: v."
 unfoldable pub layoutOf : Header → Layout
@@ -32,13 +33,13 @@ layoutOf h =
       edition = 1;
       header = h;
       key = record { offset = 30; length = h .m };
-      commitments = record { offset = 30 + h .m; length = commitmentsLength h };
-      exchanges = record { offset = 30 + h .m + commitmentsLength h; length = exchangesLength h };
+      commitments = record { offset = 30 + h .m; length = commitmentsBody h };
+      exchanges = record { offset = 30 + h .m + commitmentsBody h; length = exchangesBody h };
     }
 
 -- "Nothing follows the last body."
 unfoldable pub recordLength : Header → ℕ
-recordLength h = 30 + h .m + commitmentsLength h + exchangesLength h
+recordLength h = 30 + h .m + commitmentsBody h + exchangesBody h
 
 -- ---- bytes
 
@@ -56,7 +57,7 @@ table h = entry (layoutOf h .key) ++ entry (layoutOf h .commitments) ++ entry (l
 
 -- "Byte 0 edition (1), then scheme, q, n, m, N."
 unfoldable pub head : Header → List ℕ
-head h = 1 ∷ h .scheme ∷ h .q ∷ h .n ∷ h .m ∷ h .rounds ∷ []
+head h = 1 ∷ S.byteOf (h .scheme) ∷ h .q ∷ h .n ∷ h .m ∷ h .rounds ∷ []
 
 -- what a record holds
 pub record Fields : Type 0 where
@@ -71,9 +72,13 @@ written f = head (f .header) ++ table (f .header) ++ f .key ++ f .commitments ++
 
 -- ---- the fields that stand in a record
 
+-- the header of five bytes, of which the first is a scheme's
+abbrev pub headerOf : ℕ → ℕ → ℕ → ℕ → ℕ → Header
+headerOf byte q n m rounds = record { scheme = S.schemeOf byte; q = q; n = n; m = m; rounds = rounds }
+
 -- "then scheme, q, n, m, N"
 unfoldable pub headerIn : List ℕ → Header
-headerIn b = record { scheme = b ! 1; q = b ! 2; n = b ! 3; m = b ! 4; rounds = b ! 5 }
+headerIn b = headerOf (b ! 1) (b ! 2) (b ! 3) (b ! 4) (b ! 5)
 
 -- the bytes of a body
 unfoldable pub bodyIn : Body → List ℕ → List ℕ
@@ -115,20 +120,19 @@ vectorsOf h exchange = take (S.vectorsLength (h .scheme) (h .n) (h .m)) (drop (S
 
 -- an exchange whose elements and challenge are among their values
 pub record ValidExchange (h : Header) (exchange : List ℕ) : Type 0 where
-  pub middle-elements : Elements (h .q) (turnOf h exchange)
+  pub turn-elements : Elements (h .q) (turnOf h exchange)
   pub challenge-value : challengeOf h exchange < S.challenges (h .scheme)
   pub reply-elements : Elements (h .q) (vectorsOf h exchange)
 
--- "every field, element and challenge among its values"
+-- "every field, element and challenge among its values"; a `Scheme` is one of its own
 pub record Valid (f : Fields) : Type 0 where
-  pub scheme-value : S.isScheme (f .header .scheme) ≡ true
   pub q-value : isField (f .header .q) ≡ true
   pub n-value : (1 ≤ f .header .n) × (f .header .n ≤ 96)
   pub m-value : (1 ≤ f .header .m) × (f .header .m ≤ 96)
   pub rounds-value : (1 ≤ f .header .rounds) × (f .header .rounds ≤ 255)
   pub key-length : length (f .key) ≡ f .header .m
-  pub commitments-length : length (f .commitments) ≡ commitmentsLength (f .header)
-  pub exchanges-length : length (f .exchanges) ≡ exchangesLength (f .header)
+  pub commitments-length : length (f .commitments) ≡ commitmentsBody (f .header)
+  pub exchanges-length : length (f .exchanges) ≡ exchangesBody (f .header)
   pub key-elements : Elements (f .header .q) (f .key)
   pub each-exchange : (r : ℕ) → r < f .header .rounds → ValidExchange (f .header) (exchangeOf (f .header) (f .exchanges) r)
 

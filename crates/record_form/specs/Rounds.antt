@@ -9,16 +9,16 @@ use Rattle.record_form.specs.declared.layout.Header.{Header}
 use Rattle.record_form.specs.Record.{Fields, Elements, exchangeOf, commitmentsOf, turnOf, challengeOf, replyOf}
 use Rattle.record_form.specs.Form.{areValues}
 
--- the messages of a round; the middle is α, t1, e1 in scheme 5 and nothing in scheme 3
+-- the messages of a round; the turn is α, t1, e1 in scheme 5 and nothing in scheme 3
 pub record Round : Type 0 where
   pub commitments : List ℕ
-  pub middle : List ℕ
+  pub turn : List ℕ
   pub challenge : ℕ
   pub reply : List ℕ
 
 -- "Exchange: scheme 3, challenge byte and reply; scheme 5, α, t1, e1, challenge byte, reply."
 unfoldable pub exchangeBytes : Round → List ℕ
-exchangeBytes x = x .middle ++ x .challenge ∷ x .reply
+exchangeBytes x = x .turn ++ x .challenge ∷ x .reply
 
 -- n lists one behind the other: part 0, part 1, .., part (n - 1)
 unfoldable pub joined : ℕ → (ℕ → List ℕ) → List ℕ
@@ -38,9 +38,9 @@ fieldsOfRounds h key round =
 -- a round whose messages have their lengths, "every .. element and challenge among its values"
 pub record ValidRound (h : Header) (x : Round) : Type 0 where
   pub commitments-length : length (x .commitments) ≡ S.commitmentsLength (h .scheme)
-  pub middle-length : length (x .middle) ≡ S.turnLength (h .scheme) (h .n) (h .m)
+  pub turn-length : length (x .turn) ≡ S.turnLength (h .scheme) (h .n) (h .m)
   pub reply-length : length (x .reply) ≡ S.replyLength (h .scheme) (h .n) (h .m)
-  pub middle-elements : Elements (h .q) (x .middle)
+  pub turn-elements : Elements (h .q) (x .turn)
   pub challenge-value : x .challenge < S.challenges (h .scheme)
   pub reply-elements : Elements (h .q) (take (S.vectorsLength (h .scheme) (h .n) (h .m)) (x .reply))
 
@@ -57,7 +57,7 @@ roundOf f r =
     let x = exchangeOf (f .header) (f .exchanges) r in
     record {
       commitments = commitmentsOf (f .header) (f .commitments) r;
-      middle = turnOf (f .header) x;
+      turn = turnOf (f .header) x;
       challenge = challengeOf (f .header) x;
       reply = replyOf (f .header) x;
     }

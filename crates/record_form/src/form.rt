@@ -6,9 +6,8 @@ use refusal::unless;
 use scheme::challenges;
 use scheme::exchange_length;
 use scheme::is_rounds;
-use scheme::is_scheme;
-use scheme::turn_length;
 use scheme::of_rounds;
+use scheme::turn_length;
 use scheme::vectors_length;
 use slices::byte_at;
 use slices::part;
@@ -23,16 +22,12 @@ pub enum Check {
     Challenges,
 }
 
-// Whether scheme, q, n, m and the round count are among their values.
+// Whether q, n, m and the round count are among their values; a scheme is one of its own.
 pub fn are_values(h: Header) -> bool
     ensures { λ r. ⌜ r ≡ areValues h ⌝ }
 {
-    if is_scheme(h.scheme) {
-        if are_sizes(h.q, h.n, h.m) {
-            is_rounds(h.rounds)
-        } else {
-            false
-        }
+    if are_sizes(h.q, h.n, h.m) {
+        is_rounds(h.rounds)
     } else {
         false
     }
@@ -42,11 +37,12 @@ pub fn are_values(h: Header) -> bool
 fn exchange_refusal(check: Check, h: Header, exchange: &[u8]) -> u8
     ensures { λ r. ⌜ r ≡ exchangeRefusal check h (now (exchange .entry)) ⌝ }
 {
-    let middle = turn_length(h.scheme, h.n, h.m);
-    let vectors = vectors_length(h.scheme, h.n, h.m);
-    let before = unless(all_below(h.q, part(exchange, 0, middle)), 3);
-    let challenge = unless(byte_at(exchange, middle) < challenges(h.scheme), 4);
-    let after = unless(all_below(h.q, part(exchange, middle + 1, vectors)), 3);
+    let scheme = h.scheme;
+    let turn = turn_length(scheme, h.n, h.m);
+    let vectors = vectors_length(scheme, h.n, h.m);
+    let before = unless(all_below(h.q, part(exchange, 0, turn)), 3);
+    let challenge = unless(byte_at(exchange, turn) < challenges(scheme), 4);
+    let after = unless(all_below(h.q, part(exchange, turn + 1, vectors)), 3);
     match check {
         Check::FileOrder => first(before, first(challenge, after)),
         Check::Elements => first(before, after),
@@ -58,7 +54,8 @@ fn exchange_refusal(check: Check, h: Header, exchange: &[u8]) -> u8
 pub fn exchanges_refusal(check: Check, h: Header, exchanges: &[u8]) -> u8
     ensures { λ r. ⌜ r ≡ exchangesRefusal check h (now (exchanges .entry)) ⌝ }
 {
-    let each = exchange_length(h.scheme, h.n, h.m);
+    let scheme = h.scheme;
+    let each = exchange_length(scheme, h.n, h.m);
     let rounds = h.rounds;
     let mut refused = 0;
     let mut r = 0;

@@ -1,21 +1,37 @@
 // Where the bodies of a record stand, and the table of contents that says so.
+use scheme::Scheme;
 use scheme::commitments_length;
 use scheme::exchange_length;
 use scheme::of_rounds;
+use scheme::scheme_of;
 use slices::put;
 use slices::put_both;
 ghost use mathlib.Core.Path.{_≡_};
 ghost use Prim.Native.Nat.{_+_, _≤_};
 ghost use lib.ListN.{length};
-ghost use Rattle.record_form.specs.Record.{layoutOf, recordLength, word as wordOf, entry as entryOf, table as tableOf};
+ghost use Rattle.record_form.specs.Record.{headerOf, layoutOf, recordLength, word as wordOf, entry as entryOf, table as tableOf};
 
 // The values that stand behind the edition.
 pub struct Header {
-    pub scheme: u8,
+    pub scheme: Scheme,
     pub q: u8,
     pub n: u8,
     pub m: u8,
     pub rounds: u8,
+}
+
+// The header of five bytes, of which the first is a scheme's.
+pub fn header_from(byte: u8, q: u8, n: u8, m: u8, rounds: u8) -> Header
+    ensures { λ r. ⌜ r ≡ headerOf byte q n m rounds ⌝ }
+{
+    let scheme = scheme_of(byte);
+    Header {
+        scheme,
+        q,
+        n,
+        m,
+        rounds,
+    }
 }
 
 // Where a body stands.
@@ -37,8 +53,9 @@ pub fn laid_out(h: Header) -> Layout
     ensures { λ r. ⌜ (r ≡ layoutOf h) × (r .exchanges .offset + r .exchanges .length ≤ 1000000) ⌝ }
 {
     let m = h.m as usize;
-    let commitments = of_rounds(h.rounds, commitments_length(h.scheme));
-    let exchanges = of_rounds(h.rounds, exchange_length(h.scheme, h.n, h.m));
+    let scheme = h.scheme;
+    let commitments = of_rounds(h.rounds, commitments_length(scheme));
+    let exchanges = of_rounds(h.rounds, exchange_length(scheme, h.n, h.m));
     Layout {
         edition: 1,
         header: h,

@@ -8,6 +8,7 @@ pub use form::exchanges_refusal;
 pub use layout::Body;
 pub use layout::Header;
 pub use layout::Layout;
+pub use layout::header_from;
 pub use layout::laid_out;
 pub use layout::record_length;
 pub use layout::table;

@@ -1,23 +1,37 @@
 // Outputs held against the pieces expected. What is beyond the end of a piece is zero, as in the engine's vectors.
 use cases::Small;
-use round::Commitments;
+use round::CommitmentsFive;
+use round::CommitmentsThree;
 use round::Middle;
 use round::ReplyFive;
 use round::ReplyThree;
+use scheme::Scheme;
+use scheme::commitments_length;
+use scheme::reply_length;
+use slices::bytes32;
 use slices::equal;
 use slices::same32;
 
-// Two or three commitments, of so many bytes; the engine's c2 is zero where there are two.
-pub fn same_commitments(made: Commitments, expected: Small, length: usize) -> bool {
+// c0, c1 and c2 of three passes.
+pub fn same_three_commitments(made: CommitmentsThree, expected: Small) -> bool {
     let bytes = expected.bytes;
-    let wanted = exchange::read_commitments(&bytes);
-    let a0 = made.c0;
-    let a1 = made.c1;
-    let a2 = made.c2;
-    let b0 = wanted.c0;
-    let b1 = wanted.c1;
-    let b2 = wanted.c2;
-    expected.length == length && same32(a0, b0) && same32(a1, b1) && same32(a2, b2)
+    let c0 = made.c0;
+    let c1 = made.c1;
+    let c2 = made.c2;
+    let length = commitments_length(Scheme::ThreePass);
+    expected.length == length
+        && same32(c0, bytes32(&bytes, 0))
+        && same32(c1, bytes32(&bytes, 32))
+        && same32(c2, bytes32(&bytes, 64))
+}
+
+// c0 and c1 of five passes.
+pub fn same_five_commitments(made: CommitmentsFive, expected: Small) -> bool {
+    let bytes = expected.bytes;
+    let c0 = made.c0;
+    let c1 = made.c1;
+    let length = commitments_length(Scheme::FivePass);
+    expected.length == length && same32(c0, bytes32(&bytes, 0)) && same32(c1, bytes32(&bytes, 32))
 }
 
 // t1 and e1, without α before them.
@@ -40,7 +54,7 @@ pub fn same_reply_three(made: ReplyThree, expected: Small, n: u8, m: u8) -> bool
     let made_second = made.second;
     let first = wanted.first;
     let second = wanted.second;
-    let length = 2 * n as usize + m as usize + 64;
+    let length = reply_length(Scheme::ThreePass, n, m);
     expected.length == length && vectors && same32(made_first, first) && same32(made_second, second)
 }
 
@@ -54,14 +68,14 @@ fn same_vectors(made: ReplyThree, wanted: ReplyThree) -> bool {
     same96(ax, bx) && same96(ay, by) && same96(az, bz)
 }
 
-pub fn same_reply_five(made: ReplyFive, expected: Small, n: u8) -> bool {
+pub fn same_reply_five(made: ReplyFive, expected: Small, n: u8, m: u8) -> bool {
     let bytes = expected.bytes;
     let wanted = exchange::read_reply_five(&bytes, n);
     let ax = made.x;
     let bx = wanted.x;
     let a_rho = made.rho;
     let b_rho = wanted.rho;
-    let length = n as usize + 32;
+    let length = reply_length(Scheme::FivePass, n, m);
     expected.length == length && same96(ax, bx) && same32(a_rho, b_rho)
 }
 

@@ -13,8 +13,8 @@ use Rattle.refusal.proofs.Refusals.{first-zero, later-zero, equal-holds, both-z
 use Rattle.field.specs.Ops.{isField}
 use Rattle.field.specs.Vector.{allBelow}
 use Rattle.system.specs.System.{qOf, nOf, mOf, width, systemLength, isSize, areSizes, systemRefusal}
-use Rattle.system.proofs.SystemLayout.{all-below-at, at-all-below, well-formed, not-refused, q-is, n-is, m-is}
-use Rattle.exchange.proofs.ReadBack.{below-append}
+use Rattle.field.proofs.Elements.{all-below-at, at-all-below, below-append}
+use Rattle.system.proofs.SystemLayout.{well-formed, not-refused, q-is, n-is, m-is}
 use Rattle.scheme.specs.Scheme.{drawnLength, commitmentCount, commitmentsLength, openedCount, vectorsLength, rhosLength, replyLength}
 use Rattle.simulator.specs.Arguments.{VectorBytes, LentPieces, Simulable}
 use Rattle.simulator.specs.Simulator.{simulateRefusal}

@@ -1,22 +1,25 @@
 -- The rounds of a record, by the messages with which report and audit judge them: those that were written, and no others. Assumes nothing.
-use Prim.Native.Nat.{ℕ, _+_, _<_}
+use Prim.Native.Nat.{ℕ, _<_}
 use mathlib.Core.Path.{_≡_, refl, ap, _∙_}
-use mathlib.Core.List.{List, _∷_}
+use mathlib.Core.List.{List, _∷_, _++_}
 use lib.ListN.{length}
 use Rattle.slices.specs.Slices.{_!_}
 use Rattle.field.specs.Vector.{asVector}
 use Rattle.scheme.specs.Scheme as S
 use Rattle.system.proofs.SystemLayout.{Sizes}
-use Rattle.exchange.specs.Messages.{accepts, commitmentsIn, middleIn, replyThreeIn, replyFiveIn}
-use Rattle.exchange.specs.Messages.{threeCommitments, fiveCommitments, replyThreeBytes, middleBytes, replyFiveBytes}
-use Rattle.exchange.proofs.Parts.{three-commitments-are, five-commitments-are, middle-is, reply-three-is, reply-five-is}
+use Rattle.scheme.specs.declared.Scheme.{Scheme}
+use Rattle.scheme.specs.declared.Scheme.the-variants.{ThreePass, FivePass}
+use Rattle.round.specs.Openings.{commitmentAt}
+use Rattle.exchange.specs.Messages.{accepts, middleIn, replyThreeIn, replyFiveIn}
+use Rattle.exchange.specs.Messages.{replyThreeBytes, middleBytes, replyFiveBytes}
+use Rattle.exchange.proofs.Parts.{three-commitments-are, five-commitments-are, turn-is, reply-three-is, reply-five-is}
 use Rattle.record_form.specs.declared.layout.Header.{Header}
 use Rattle.record_form.specs.Record.{Fields, layoutOf, written, WellFormedRecord, headerIn, fieldsIn}
 use Rattle.record_form.specs.Rounds.{Round, fieldsOfRounds, ValidRound, ValidRounds, roundOf}
 use Rattle.record_form.proofs.ValidForm.{values}
 use Rattle.record_form.proofs.Rounds.{round-of, rounds-valid, fields-of, valid-rounds}
 use Rattle.record.proofs.RecordLayout.{header-written, fields-written, valid-fields, written-fields, not-refused}
-use Rattle.transcript.specs.Transcript.{keyVector, roundCommitments, roundExchange, roundTurn, roundChallenge, roundReply, roundIn, acceptedRound}
+use Rattle.transcript.specs.Transcript.{domainIn, keyVector, roundCommitments, roundExchange, roundTurn, roundChallenge, roundReply, roundIn, acceptedRound}
 
 -- a round's messages are those that stand in the record's fields
 in-fields : (b : List ℕ) (r : ℕ) → roundIn b r ≡ roundOf (fieldsIn b) r
@@ -36,15 +39,15 @@ rounds-written h key round v =
 -- so a round of such a record is judged by the messages that were written
 pub judged-as-written : (system : List ℕ) (h : Header) (key : List ℕ) (round : ℕ → Round) → ValidRounds h key round → (r : ℕ) → r < h .rounds →
     acceptedRound system (written (fieldsOfRounds h key round)) r ≡
-    accepts system (h .scheme) (asVector key) (round r .commitments) (round r .middle) (round r .challenge) (round r .reply)
-unfolding acceptedRound keyVector roundIn fieldsOfRounds
+    accepts system (record { scheme = h .scheme }) (asVector key) (round r .commitments) (round r .turn) (round r .challenge) (round r .reply)
+unfolding acceptedRound domainIn keyVector roundIn fieldsOfRounds
 judged-as-written system h key round v r below =
     let f = fieldsOfRounds h key round in
     of-same _ _ _ (header-written f) (ap (λ (g : Fields). g .key) (fields-written f (rounds-valid h key round v))) (rounds-written h key round v .1 r below)
   where
     of-same : (k : Header) (l : List ℕ) (x : Round) → k ≡ h → l ≡ key → x ≡ round r →
-        accepts system (k .scheme) (asVector l) (x .commitments) (x .middle) (x .challenge) (x .reply) ≡
-        accepts system (h .scheme) (asVector key) (round r .commitments) (round r .middle) (round r .challenge) (round r .reply)
+        accepts system (record { scheme = k .scheme }) (asVector l) (x .commitments) (x .turn) (x .challenge) (x .reply) ≡
+        accepts system (record { scheme = h .scheme }) (asVector key) (round r .commitments) (round r .turn) (round r .challenge) (round r .reply)
     of-same k l x hk hl hx = rw (hk, hl, hx)
 
 -- and every well-formed record is the record of its rounds, each of them valid
@@ -57,16 +60,6 @@ rounds-read b w =
     (valid-rounds (fieldsIn b) valid, ap written (fields-of (fieldsIn b) valid) ∙ written-fields b none)
 
 -- ---- what the messages are made of, as the check reads them
-
-three-lengths : (scheme n m : ℕ) → scheme ≡ 3 →
-    (S.commitmentsLength scheme ≡ 96) × (S.turnLength scheme n m ≡ 0) × (S.replyLength scheme n m ≡ n + n + m + 64)
-unfolding S.commitmentsLength S.turnLength S.replyLength S.vectorsLength S.rhosLength
-three-lengths scheme n m is = (simp is, simp is, simp is)
-
-five-lengths : (scheme n m : ℕ) → scheme ≡ 5 →
-    (S.commitmentsLength scheme ≡ 64) × (S.turnLength scheme n m ≡ 1 + n + m) × (S.replyLength scheme n m ≡ n + 32)
-unfolding S.commitmentsLength S.turnLength S.replyLength S.vectorsLength S.rhosLength
-five-lengths scheme n m is = (simp is, simp is, simp is)
 
 module _ (b : List ℕ) (w : WellFormedRecord b) (r : ℕ) (below : r < headerIn b .rounds) where
   abbrev n : ℕ
@@ -81,29 +74,30 @@ module _ (b : List ℕ) (w : WellFormedRecord b) (r : ℕ) (below : r < headerIn
   valid-of : ValidRound (headerIn b) (roundIn b r)
   valid-of = rounds-read b w .0 .each-round r below
 
+  abbrev committed : ℕ → List ℕ
+  committed k = commitmentAt (roundCommitments b r) k
+
   -- three passes: c0, c1, c2; nothing before the challenge; three vectors and two ρ
-  pub three-parts : headerIn b .scheme ≡ 3 →
-      (threeCommitments (commitmentsIn (roundCommitments b r)) ≡ roundCommitments b r) × (length (roundTurn b r) ≡ 0) ×
+  pub three-parts : headerIn b .scheme ≡ ThreePass →
+      (committed 0 ++ committed 1 ++ committed 2 ≡ roundCommitments b r) × (length (roundTurn b r) ≡ 0) ×
       (replyThreeBytes n m (replyThreeIn n m (roundReply b r)) ≡ roundReply b r)
-  unfolding roundIn
+  unfolding roundIn S.turnLength
   three-parts is =
-      let long = three-lengths (headerIn b .scheme) n m is in
       let v = valid-of in (
-        three-commitments-are (roundCommitments b r) (v .commitments-length ∙ long .0),
-        v .middle-length ∙ long .1,
-        reply-three-is n m (sizes-of .n-high) (sizes-of .m-high) (roundReply b r) (v .reply-length ∙ long .2),
+        three-commitments-are (roundCommitments b r) (v .commitments-length ∙ ap S.commitmentsLength is),
+        v .turn-length ∙ ap (λ (s : Scheme). S.turnLength s n m) is,
+        reply-three-is n m (sizes-of .n-high) (sizes-of .m-high) (roundReply b r) (v .reply-length ∙ ap (λ (s : Scheme). S.replyLength s n m) is),
       )
 
   -- five passes: c0, c1; α, t1, e1; a vector and its ρ
-  pub five-parts : headerIn b .scheme ≡ 5 →
-      (fiveCommitments (commitmentsIn (roundCommitments b r)) ≡ roundCommitments b r) ×
+  pub five-parts : headerIn b .scheme ≡ FivePass →
+      (committed 0 ++ committed 1 ≡ roundCommitments b r) ×
       ((roundTurn b r ! 0) ∷ middleBytes n m (middleIn n m (roundTurn b r)) ≡ roundTurn b r) ×
       (replyFiveBytes n (replyFiveIn n (roundReply b r)) ≡ roundReply b r)
   unfolding roundIn
   five-parts is =
-      let long = five-lengths (headerIn b .scheme) n m is in
       let v = valid-of in (
-        five-commitments-are (roundCommitments b r) (v .commitments-length ∙ long .0),
-        middle-is n m (sizes-of .n-high) (sizes-of .m-high) (roundTurn b r) (v .middle-length ∙ long .1),
-        reply-five-is n m (sizes-of .n-high) (sizes-of .m-high) (roundReply b r) (v .reply-length ∙ long .2),
+        five-commitments-are (roundCommitments b r) (v .commitments-length ∙ ap S.commitmentsLength is),
+        turn-is n m (sizes-of .n-high) (sizes-of .m-high) (roundTurn b r) (v .turn-length ∙ ap (λ (s : Scheme). S.turnLength s n m) is),
+        reply-five-is n m (sizes-of .n-high) (sizes-of .m-high) (roundReply b r) (v .reply-length ∙ ap (λ (s : Scheme). S.replyLength s n m) is),
       )

@@ -8,7 +8,9 @@ use Rattle.system.specs.System.{hasSizes, systemRefusal}
 use Rattle.record_form.specs.Record.{headerIn, fieldsIn, commitmentsOf, exchangeOf, turnOf, challengeOf, replyOf}
 use Rattle.record_form.specs.Rounds.{Round}
 use Rattle.record.specs.Reader.{recordRefusal}
-use Rattle.exchange.specs.Messages.{accepts}
+use Rattle.commitment.specs.declared.Domain.{Domain}
+use Rattle.round.specs.Openings.{Opening}
+use Rattle.exchange.specs.Messages.{openings, accepts}
 
 -- 7: "q, n or m of the system differ from the .. record's"
 unfoldable pub fitRefusal : List ℕ → List ℕ → ℕ
@@ -17,6 +19,10 @@ fitRefusal system b = unless (hasSizes system (headerIn b .q) (headerIn b .n) (h
 -- "Audit and report check the system before any record.", then the record, then 7
 unfoldable pub judgeRefusal : List ℕ → List ℕ → ℕ
 judgeRefusal system b = systemRefusal system orElse recordRefusal b orElse fitRefusal system b
+
+-- what stands before ρ in the strings of a record's rounds: "the scheme byte"
+unfoldable pub domainIn : List ℕ → Domain
+domainIn b = record { scheme = headerIn b .scheme }
 
 -- "Key: v."
 unfoldable pub keyVector : List ℕ → List ℕ
@@ -42,12 +48,16 @@ roundReply b r = replyOf (headerIn b) (roundExchange b r)
 
 -- the round, by its messages
 unfoldable pub roundIn : List ℕ → ℕ → Round
-roundIn b r = record { commitments = roundCommitments b r; middle = roundTurn b r; challenge = roundChallenge b r; reply = roundReply b r }
+roundIn b r = record { commitments = roundCommitments b r; turn = roundTurn b r; challenge = roundChallenge b r; reply = roundReply b r }
+
+-- what its reply opens, by the definition of its scheme, for the system and the record's key
+unfoldable pub roundOpenings : List ℕ → List ℕ → ℕ → List Opening
+roundOpenings system b r = openings system (headerIn b .scheme) (keyVector b) (roundTurn b r) (roundChallenge b r) (roundReply b r)
 
 -- the round is accepted by the check of its scheme, for the system and the record's key
 unfoldable pub acceptedRound : List ℕ → List ℕ → ℕ → Bool
 acceptedRound system b r =
-    accepts system (headerIn b .scheme) (keyVector b) (roundCommitments b r) (roundTurn b r) (roundChallenge b r) (roundReply b r)
+    accepts system (domainIn b) (keyVector b) (roundCommitments b r) (roundTurn b r) (roundChallenge b r) (roundReply b r)
 
 -- how many of the first n rounds are accepted
 unfoldable pub acceptedCount : List ℕ → List ℕ → ℕ → ℕ

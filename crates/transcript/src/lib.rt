@@ -3,6 +3,7 @@
 //
 // No message is refused: of a record that is too short, what there is of a message is given. Whoever takes a record from
 // outside reads it first; `judge_refusal` does so, with the system by which the record is judged.
+use commitment::Domain;
 use exchange::judge;
 use field::from_slice;
 use record::body_of;
@@ -10,20 +11,19 @@ use record::header_of;
 use record::read;
 use record::refusal_of;
 use record_form::laid_out;
-use refusal::first;
 use refusal::unless;
 use scheme::commitments_length;
 use scheme::exchange_length;
-use scheme::turn_length;
 use scheme::of_rounds;
 use scheme::reply_length;
+use scheme::turn_length;
 use slices::byte_at;
 use slices::part;
 use system::check;
 use system::has_sizes;
 ghost use mathlib.Core.Path.{_≡_};
 ghost use Rattle.system.specs.System.{systemRefusal};
-ghost use Rattle.transcript.specs.Transcript.{fitRefusal, judgeRefusal, keyVector, roundCommitments, roundExchange, roundTurn, roundChallenge, roundReply, acceptedRound};
+ghost use Rattle.transcript.specs.Transcript.{fitRefusal, judgeRefusal, domainIn, keyVector, roundCommitments, roundExchange, roundTurn, roundChallenge, roundReply, acceptedRound};
 
 // 7 where the system has not the q, n and m of a record.
 pub fn fit_refusal<'a>(system: &'a [u8], bytes: &'a [u8]) -> u8
@@ -33,14 +33,28 @@ pub fn fit_refusal<'a>(system: &'a [u8], bytes: &'a [u8]) -> u8
     unless(has_sizes(system, h.q, h.n, h.m), 7)
 }
 
-// The refusal of a system and a record that is judged by it, 0 for none.
+// The refusal of a system and a record that is judged by it, 0 for none; it ends at the first.
 pub fn judge_refusal<'a>(system: &'a [u8], bytes: &'a [u8]) -> u8
     ensures { λ r. ⌜ r ≡ judgeRefusal (now (system .entry)) (now (bytes .entry)) ⌝ }
 {
     let of_system = check(system);
+    if of_system != 0 {
+        return of_system;
+    }
     let of_record = refusal_of(read(bytes));
-    let of_both = fit_refusal(system, bytes);
-    first(of_system, first(of_record, of_both))
+    if of_record != 0 {
+        return of_record;
+    }
+    fit_refusal(system, bytes)
+}
+
+// What stands before ρ in the strings of a record's rounds.
+pub fn domain_in(bytes: &[u8]) -> Domain
+    ensures { λ r. ⌜ r ≡ domainIn (now (bytes .entry)) ⌝ }
+{
+    let h = header_of(bytes);
+    let scheme = h.scheme;
+    Domain { scheme }
 }
 
 // v.
@@ -55,7 +69,8 @@ pub fn round_commitments(bytes: &[u8], r: u8) -> &[u8]
     ensures { λ s. ⌜ now s ≡ roundCommitments (now (bytes .entry)) r ⌝ }
 {
     let h = header_of(bytes);
-    let each = commitments_length(h.scheme);
+    let scheme = h.scheme;
+    let each = commitments_length(scheme);
     part(
         body_of(bytes, laid_out(h).commitments),
         of_rounds(r, each),
@@ -68,7 +83,8 @@ pub fn round_exchange(bytes: &[u8], r: u8) -> &[u8]
     ensures { λ s. ⌜ now s ≡ roundExchange (now (bytes .entry)) r ⌝ }
 {
     let h = header_of(bytes);
-    let each = exchange_length(h.scheme, h.n, h.m);
+    let scheme = h.scheme;
+    let each = exchange_length(scheme, h.n, h.m);
     part(
         body_of(bytes, laid_out(h).exchanges),
         of_rounds(r, each),
@@ -76,16 +92,13 @@ pub fn round_exchange(bytes: &[u8], r: u8) -> &[u8]
     )
 }
 
-// What of an exchange stands before the challenge.
+// What of an exchange stands before the challenge: α, t1 and e1, or nothing.
 pub fn round_turn(bytes: &[u8], r: u8) -> &[u8]
     ensures { λ s. ⌜ now s ≡ roundTurn (now (bytes .entry)) r ⌝ }
 {
     let h = header_of(bytes);
-    part(
-        round_exchange(bytes, r),
-        0,
-        turn_length(h.scheme, h.n, h.m),
-    )
+    let scheme = h.scheme;
+    part(round_exchange(bytes, r), 0, turn_length(scheme, h.n, h.m))
 }
 
 // The challenge of a round.
@@ -93,7 +106,8 @@ pub fn round_challenge(bytes: &[u8], r: u8) -> u8
     ensures { λ k. ⌜ k ≡ roundChallenge (now (bytes .entry)) r ⌝ }
 {
     let h = header_of(bytes);
-    byte_at(round_exchange(bytes, r), turn_length(h.scheme, h.n, h.m))
+    let scheme = h.scheme;
+    byte_at(round_exchange(bytes, r), turn_length(scheme, h.n, h.m))
 }
 
 // The reply of a round.
@@ -101,10 +115,11 @@ pub fn round_reply(bytes: &[u8], r: u8) -> &[u8]
     ensures { λ s. ⌜ now s ≡ roundReply (now (bytes .entry)) r ⌝ }
 {
     let h = header_of(bytes);
+    let scheme = h.scheme;
     part(
         round_exchange(bytes, r),
-        turn_length(h.scheme, h.n, h.m) + 1,
-        reply_length(h.scheme, h.n, h.m),
+        turn_length(scheme, h.n, h.m) + 1,
+        reply_length(scheme, h.n, h.m),
     )
 }
 
@@ -115,7 +130,7 @@ pub fn accepts_round<'a>(system: &'a [u8], bytes: &'a [u8], r: u8) -> bool
 {
     judge(
         system,
-        header_of(bytes).scheme,
+        domain_in(bytes),
         key_vector(bytes),
         round_commitments(bytes, r),
         round_turn(bytes, r),

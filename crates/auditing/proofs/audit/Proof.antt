@@ -1,6 +1,6 @@
 -- By cases on what is refused. Assumes nothing.
 use mathlib.Core.Path.{sym, _∙_}
-use Rattle.comparable.proofs.Front.{front}
+use Rattle.comparable.proofs.Passed.{passed}
 use Rattle.auditing.proofs.Answering.{answers-by}
 use Rattle.auditing.proofs.Outcomes.{audit-refused, audit-rejected, audit-searched}
 use borrow.Author.Needs.{needs}
@@ -13,9 +13,9 @@ audit-spec =
     (tie.spec
     (λ c κs. search needs)
     (λ c κs. search needs)
-    (λ c. answers-by _ _ _ (c .refused .ensures) (audit-refused _ _ _ _ _ _ _ (c .before .before .front-refusal .ensures) (c .before .if1 .taken)))
-    (λ c κs. front _ _ _ _ _ _ (sym (c .before .front-refusal .ensures) ∙ c .if1 .left) .good)
+    (λ c. answers-by _ _ _ (c .refused .ensures) (audit-refused _ _ _ _ _ _ _ (c .before .before .comparable-refusal .ensures) (c .before .if1 .taken)))
+    (λ c κs. passed _ _ _ _ _ _ (sym (c .before .comparable-refusal .ensures) ∙ c .if1 .left) .good)
     (λ c κs. search needs)
-    (λ c. answers-by _ _ _ (c .refused2 .ensures) (audit-rejected _ _ _ _ _ _ _ _ (c .before .before .before .before .before .front-refusal .ensures) (c .before .before .before .before .if1 .left) (c .before .before .before .first-rejection .ensures) (c .before .if2 .taken)))
-    (λ c κs. front _ _ _ _ _ _ (sym (c .before .before .before .before .front-refusal .ensures) ∙ c .before .before .before .if1 .left) .good)
-    (λ c. answers-by _ _ _ (c .search .ensures) (audit-searched _ _ _ _ _ _ _ _ (c .before .before .before .before .before .front-refusal .ensures) (c .before .before .before .before .if1 .left) (c .before .before .before .first-rejection .ensures) (c .before .if2 .left))))
+    (λ c. answers-by _ _ _ (c .refused2 .ensures) (audit-rejected _ _ _ _ _ _ _ _ (c .before .before .before .before .before .comparable-refusal .ensures) (c .before .before .before .before .if1 .left) (c .before .before .before .first-rejection .ensures) (c .before .if2 .taken)))
+    (λ c κs. passed _ _ _ _ _ _ (sym (c .before .before .before .before .comparable-refusal .ensures) ∙ c .before .before .before .if1 .left) .good)
+    (λ c. answers-by _ _ _ (c .search .ensures) (audit-searched _ _ _ _ _ _ _ _ (c .before .before .before .before .before .comparable-refusal .ensures) (c .before .before .before .before .if1 .left) (c .before .before .before .first-rejection .ensures) (c .before .if2 .left))))

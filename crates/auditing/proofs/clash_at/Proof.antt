@@ -12,4 +12,4 @@ clash-at-spec =
     (tie.spec
     (λ c κs. search needs)
     (λ c κs. search needs)
-    (λ c. let k = c .before .before .before .opened-pair .ensures in answers-clash _ _ _ _ _ _ (c .clashed .ensures) (k .left-is) (k .left-room) (k .right-is) (k .right-room)))
+    (λ c. let k = c .before .before .before .opened-pair .ensures in answers-clash _ _ _ _ _ _ (c .clashed .ensures) (k .left-text) (k .right-text)))

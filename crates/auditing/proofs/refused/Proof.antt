@@ -13,4 +13,4 @@ refused-spec =
     (tie.spec
     (λ c κs. search needs)
     (λ c κs. search needs)
-    (λ c. answers-refused _ _ _ _ _ _ refl (c .before .empty .ensures) (c .empty2 .ensures)))
+    (λ c. answers-refused _ _ _ _ _ _ refl (c .before .empty .ensures .is) (c .empty2 .ensures .is)))

@@ -1,4 +1,9 @@
 -- The callees' answers, put together. Assumes nothing.
+use mathlib.Core.Path.{ap}
+use mathlib.Core.List.{List}
+use Prim.Native.Nat.{ℕ}
+use Rattle.commitment.proofs.Texts.{text-as}
+use Rattle.openings.specs.Openings.{openingIn}
 use Rattle.clash.specs.Clash.{leftOpening, rightOpening}
 use borrow.Author.Needs.{needs}
 use Rattle.clash.proofs.opened_pair.Statement.{statement}
@@ -13,4 +18,9 @@ opened-pair-spec =
     (λ c κs. search needs)
     (λ c κs. search needs)
     (λ c κs. search needs)
-    (λ c. record { left-is = simp (c .before .before .opening .ensures .0, c .before .before .before .left-record .ensures); left-room = c .before .before .opening .ensures .1; right-is = simp (c .opening2 .ensures .0, c .before .right-record .ensures); right-room = c .opening2 .ensures .1 }))
+    (λ c.
+    let a = c .before .before .before .before .before .before .before .before .before .args in
+    record {
+      left-text = text-as _ _ 0 _ (c .before .before .opening .ensures) (ap (λ (b : List ℕ). openingIn (a .system .now) b (a .r) (a .k)) (c .before .before .before .left-record .ensures));
+      right-text = text-as _ _ 0 _ (c .opening2 .ensures) (ap (λ (b : List ℕ). openingIn (a .system .now) b (a .r) (a .k)) (c .before .right-record .ensures));
+    }))

@@ -1,20 +1,22 @@
 -- The strings are what is held, so that their vectors are compared. Assumes nothing.
-use Prim.Native.Nat.{ℕ}
-use mathlib.Core.Path.{_≡_, ap₂, _∙_}
+use mathlib.Core.Path.{_≡_, ap, ap₂, _∙_}
 use mathlib.Core.Bool.{Bool}
 use mathlib.Core.List.{List}
-use lib.ListN.{take}
-use Rattle.commitment.proofs.HeldStrings.{content}
+use Prim.Native.Nat.{ℕ}
+use Rattle.commitment.specs.declared.Domain.{Domain}
+use Rattle.commitment.specs.Texts.{content}
+use Rattle.commitment.proofs.Texts.{content-is}
 use Rattle.openings.specs.Openings.{sameOpenings}
 use Rattle.clash.specs.declared.Pair.{Pair}
-use Rattle.clash.specs.Clash.{Holds, samePair}
+use Rattle.clash.specs.Clash.{PairOf, samePair}
 use borrow.Author.Needs.{needs}
 use Rattle.clash.proofs.same_pair.Statement.{statement}
 use Rattle.clash.proofs.same_pair.Tie as tie
 
-compared : (p : Pair) (x y : List ℕ) (t : Bool) → Holds p x y → t ≡ sameOpenings (take (p .left .len) (p .left .bytes)) (take (p .right .len) (p .right .bytes)) →
-    t ≡ sameOpenings x y
-compared p x y t k tested = tested ∙ ap₂ sameOpenings (content (p .left) x (k .left-is) (k .left-room)) (content (p .right) y (k .right-is) (k .right-room))
+tested : (p : Pair) (x y : List ℕ) (d e : Domain) (t : Bool) → PairOf p x y → d ≡ e → t ≡ sameOpenings d (content (p .left)) (content (p .right)) →
+    t ≡ sameOpenings e x y
+tested p x y d e t k domain is =
+    is ∙ ap₂ (sameOpenings d) (content-is x 0 (p .left) (k .left-text)) (content-is y 0 (p .right) (k .right-text)) ∙ ap (λ (f : Domain). sameOpenings f x y) domain
 
 pub same-pair-spec : {M : Type 1} → statement M
 unfolding samePair
@@ -23,4 +25,6 @@ same-pair-spec =
     (tie.spec
     (λ c κs. search needs)
     (λ c κs. search needs)
-    (λ c. compared _ _ _ _ (c .before .before .before .opened-pair .ensures) (c .same-openings .ensures)))
+    (λ c κs. search needs)
+    (λ c.
+    tested _ _ _ _ _ _ (c .before .before .before .before .opened-pair .ensures) (c .before .domain-in .ensures) (c .same-openings .ensures)))

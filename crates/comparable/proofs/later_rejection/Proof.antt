@@ -1,6 +1,5 @@
 -- Record by record. Assumes nothing.
 use mathlib.Core.Path.{refl}
-use borrow.Author.Tests.{ne-eqb}
 use Rattle.comparable.specs.Comparable.{laterRejection}
 use Rattle.comparable.proofs.Rejections.{rejected-here, rejected-later}
 use borrow.Author.Needs.{needs}
@@ -13,8 +12,10 @@ later-rejection-spec =
     tie.close
     (tie.spec
     (λ c κs. search needs)
-    (λ c. rejected-here _ _ _ _ (c .before .rejected-round .ensures) (c .if1 .taken))
-    (λ c. rejected-later _ _ _ _ _ (c .before .before .rejected-round .ensures) (c .before .if1 .left) (simp (c .if2 .taken)))
+    (λ c.
+    rejected-here _ _ _ _ (c .before .rejected-round .ensures) (c .if1 .taken))
     (λ c κs. search needs)
-    (λ c. rejected-later _ _ _ _ _ (c .before .before .before .before .rejected-round .ensures) (c .before .before .before .if1 .left) (simp (ne-eqb _ _ (c .before .before .if2 .left)) (rejected-here _ _ _ _ (c .before .rejected-round2 .ensures) (c .if3 .taken))))
-    (λ c. rejected-later _ _ _ _ _ (c .before .before .before .before .rejected-round .ensures) (c .before .before .before .if1 .left) (simp (ne-eqb _ _ (c .before .before .if2 .left)) (rejected-later _ _ _ _ _ (c .before .rejected-round2 .ensures) (c .if3 .left) refl))))
+    (λ c.
+    rejected-later _ _ _ _ _ (c .before .before .before .rejected-round .ensures) (c .before .before .if1 .left) (rejected-here _ _ _ _ (c .before .fourth-rejected .ensures) (c .if2 .taken)))
+    (λ c.
+    rejected-later _ _ _ _ _ (c .before .before .before .rejected-round .ensures) (c .before .before .if1 .left) (rejected-later _ _ _ _ _ (c .before .fourth-rejected .ensures) (c .if2 .left) refl)))

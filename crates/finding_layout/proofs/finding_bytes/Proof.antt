@@ -24,7 +24,7 @@ finding-bytes-spec =
     (λ c. search needs)
     (λ c. search needs)
     (λ c κs.
-    let front-long = c .before .before .before .before .before .front .ensures .1 in
+    let kind-long = c .before .before .before .before .before .kind-bytes .ensures .1 in
     omega (arith, long (c .before .before .before .before .before .before)))
     (λ c. search needs)
     (λ c. search needs)
@@ -37,6 +37,6 @@ finding-bytes-spec =
     (λ c.
     let whole = c .before .put-both3 in
     let whole-kept = whole .kept .0 in
-    let start = c .before .before .before .before .before .before .before .before .before .before .before .put-both .ensures ∙ ap (λ (a : List ℕ). a ++ c .before .before .before .before .before .before .before .before .before .before .before .before .before .before .before .before .before .before .before .args .audited .secret) (c .before .before .before .before .before .before .before .before .before .before .before .before .before .before .before .before .before .front .ensures .0) in
+    let start = c .before .before .before .before .before .before .before .before .before .before .before .put-both .ensures ∙ ap (λ (a : List ℕ). a ++ c .before .before .before .before .before .before .before .before .before .before .before .before .before .before .before .before .before .before .before .args .audited .secret) (c .before .before .before .before .before .before .before .before .before .before .before .before .before .before .before .before .before .kind-bytes .ensures .0) in
     let strings = c .before .before .before .before .before .before .put-both2 .ensures ∙ ap₂ (λ (a d : List ℕ). a ++ d) (c .before .before .before .before .before .before .before .before .before .before .before .before .before .before .before .before .text-bytes .ensures .0) (c .before .before .before .before .before .before .before .before .before .before .before .before .before .before .before .text-bytes2 .ensures .0) in
     (whole .ensures ∙ ap₂ (λ (a d : List ℕ). a ++ d) start strings, omega arith)))

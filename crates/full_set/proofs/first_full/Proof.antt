@@ -3,6 +3,7 @@ use Prim.Native.Nat.{ℕ, _-_, _≤_}
 use mathlib.Core.Path.{_≡_, ap, _∙_}
 use mathlib.Core.List.{List}
 use native.Mathlib.Omega.{arith}
+use Rattle.scheme.specs.declared.Scheme.{Scheme}
 use Rattle.record_form.specs.declared.layout.Header.{Header}
 use Rattle.record_form.specs.Record.{headerIn}
 use Rattle.transcript.specs.Transcript.{firstWhere}
@@ -18,7 +19,7 @@ Inv-loop scheme a b c d rounds r₀ r = (firstWhere r (fullSet scheme a b c d) �
 abbrev μ-loop : tie.MeasureT-loop
 μ-loop scheme a b c d rounds r₀ r = rounds - r
 
-answer : (scheme : ℕ) (a b c d : List ℕ) (h : Header) (found : ℕ) → h ≡ headerIn a → found ≡ firstWhere (h .rounds) (fullSet scheme a b c d) →
+answer : (scheme : Scheme) (a b c d : List ℕ) (h : Header) (found : ℕ) → h ≡ headerIn a → found ≡ firstWhere (h .rounds) (fullSet scheme a b c d) →
     found ≡ firstFull scheme a b c d
 unfolding firstFull
 answer scheme a b c d h found is e = e ∙ ap (λ (k : Header). firstWhere (k .rounds) (fullSet scheme a b c d)) is

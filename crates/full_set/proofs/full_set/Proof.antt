@@ -1,5 +1,4 @@
 -- By cases on the scheme. Assumes nothing.
-use borrow.Author.Tests.{ne-eqb}
 use Rattle.full_set.specs.FullSet.{fullSet}
 use borrow.Author.Needs.{needs}
 use Rattle.full_set.proofs.full_set.Statement.{statement}
@@ -10,7 +9,9 @@ unfolding fullSet
 full-set-spec =
     tie.close
     (tie.spec
+    (λ c. search needs)
     (λ c κs. search needs)
+    (λ c. search needs)
     (λ c κs. search needs)
-    (λ c. simp (c .before .if1 .taken, c .full-three .ensures))
-    (λ c. simp (ne-eqb _ _ (c .before .if1 .left), c .full-five .ensures)))
+    (λ c. simp (c .before .enum-told .given .1, c .full-three .ensures))
+    (λ c. simp (c .before .enum-told2 .given .1, c .full-five .ensures)))

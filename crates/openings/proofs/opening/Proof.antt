@@ -1,25 +1,28 @@
 -- By cases on the scheme. Assumes nothing.
-use mathlib.Core.Path.{sym, ap, _∙_}
+use mathlib.Core.Path.{_≡_, sym, ap, _∙_}
+use mathlib.Core.List.{List}
+use Prim.Native.Nat.{ℕ}
+use Rattle.scheme.specs.declared.Scheme.{Scheme}
 use Rattle.record_form.specs.declared.layout.Header.{Header}
-use borrow.Author.Tests.{ne-eqb}
-use Rattle.openings.specs.Openings.{openingIn}
+use Rattle.record_form.specs.Record.{headerIn}
 use borrow.Author.Needs.{needs}
 use Rattle.openings.proofs.opening.Statement.{statement}
 use Rattle.openings.proofs.opening.Tie as tie
 
+-- the scheme that is matched is the record's
+is-of : (b : List ℕ) (h : Header) (s : Scheme) → h ≡ headerIn b → h .scheme ≡ s → headerIn b .scheme ≡ s
+is-of b h s same is = sym (ap (λ (k : Header). k .scheme) same) ∙ is
+
 pub opening-spec : {M : Type 1} → statement M
-unfolding openingIn
 opening-spec =
     tie.close
     (tie.spec
     (λ c κs. search needs)
-    (λ c κs. search needs)
-    (λ c κs. search needs)
-    (λ c κs. search needs)
-    (λ c κs. search needs)
-    (λ c κs. search needs)
-    (λ c κs. search needs)
-    (λ c κs. search needs)
-    (λ c κs. search needs)
-    (λ c. (simp (sym (ap (λ (h : Header). h .scheme) (c .before .before .before .before .before .header-of .ensures)) ∙ c .before .before .before .if1 .taken, c .opening-three .ensures .0, c .before .round-challenge .ensures, c .before .before .key-vector .ensures, c .before .before .before .before .before .header-of .ensures, c .before .before .before .before .before .before .read-reply-three .ensures, c .before .before .before .before .before .before .before .round-reply .ensures, c .before .before .before .before .before .before .before .before .byte-at2 .ensures, c .before .before .before .before .before .before .before .before .before .byte-at .ensures), c .opening-three .ensures .1))
-    (λ c. (simp (ne-eqb _ _ (λ e. c .before .if1 .left (ap (λ (h : Header). h .scheme) (c .before .before .before .header-of .ensures) ∙ e)), c .opening-five-in .ensures .0, c .before .before .before .header-of .ensures, c .before .before .before .before .read-reply-three .ensures, c .before .before .before .before .before .round-reply .ensures, c .before .before .before .before .before .before .byte-at2 .ensures, c .before .before .before .before .before .before .before .byte-at .ensures), c .opening-five-in .ensures .1)))
+    (λ c. search needs)
+    (λ c κs.
+    (c .before .before .before .before .before .pre, is-of _ _ _ (c .before .before .header-of .ensures) (c .enum-told .given .1)))
+    (λ c. search needs)
+    (λ c κs.
+    (c .before .before .before .before .before .pre, is-of _ _ _ (c .before .before .header-of .ensures) (c .enum-told2 .given .1)))
+    (λ c. c .opening-three-in .ensures)
+    (λ c. c .opening-five-in .ensures))

@@ -1,19 +1,43 @@
--- The callees' answers, put together. Assumes nothing.
-use Rattle.openings.specs.Openings.{compared, sameOpenings}
+-- What stands behind ρ is compared to its end. Assumes nothing.
+use Prim.Native.Nat.{ℕ}
+use mathlib.Core.Path.{_≡_, ap₂, _∙_}
+use mathlib.Core.List.{List}
+use native.Mathlib.Omega.{arith}
+use lib.ListN.{take, drop, length-take, length-drop}
+use lib.Seq.{take-all}
+use Rattle.slices.specs.Slices.{same}
+use Rattle.commitment.specs.declared.Domain.{Domain}
+use Rattle.commitment.specs.Commitment.{vectorsAt, vectorsIn}
+use Rattle.openings.specs.Openings.{sameOpenings}
 use borrow.Author.Needs.{needs}
 use Rattle.openings.proofs.same_openings.Statement.{statement}
 use Rattle.openings.proofs.same_openings.Tie as tie
 
+-- a part of a string that is as long as the string goes to its end
+to-end : (n at : ℕ) (l : List ℕ) → take n (drop at (take n l)) ≡ drop at (take n l)
+to-end n at l = take-all n (drop at (take n l)) (simp (length-drop, length-take) (omega arith))
+
+-- so the part of what is held is the string's vectors
+side : (d : Domain) (n at : ℕ) (l p q : List ℕ) → p ≡ take n l → q ≡ take n (drop at p) → at ≡ vectorsAt d → q ≡ vectorsIn d (take n l)
+unfolding vectorsIn
+side d n at l p q ep eq ea = eq ∙ ap₂ (λ (k : ℕ) (s : List ℕ). take n (drop k s)) ea ep ∙ to-end n (vectorsAt d) l
+
 pub same-openings-spec : {M : Type 1} → statement M
-unfolding sameOpenings compared
+unfolding sameOpenings
 same-openings-spec =
     tie.close
     (tie.spec
-    (λ c. search needs)
-    (λ c κs. search needs)
     (λ c κs. search needs)
     (λ c. search needs)
     (λ c κs. search needs)
     (λ c κs. search needs)
+    (λ c. search needs)
     (λ c κs. search needs)
-    (λ c. simp (c .equal .ensures, c .before .part4 .ensures, c .before .before .part3 .ensures, c .before .before .before .before .part2 .ensures, c .before .before .before .before .before .part .ensures)))
+    (λ c κs. search needs)
+    (λ c κs. search needs)
+    (λ c.
+    let a = c .before .before .before .before .before .before .before .before .before .before .args in
+    let at = c .before .before .before .before .before .before .before .vectors-at .ensures .0 in
+    let left = side (a .d) (a .x .len) (c .before .before .before .before .before .before .before .vectors-at .result) (a .x .bytes) _ _ (c .before .before .before .before .before .part .ensures) (c .before .before .before .before .part2 .ensures) at in
+    let right = side (a .d) (a .y .len) (c .before .before .before .before .before .before .before .vectors-at .result) (a .y .bytes) _ _ (c .before .before .part3 .ensures) (c .before .part4 .ensures) at in
+    c .equal .ensures ∙ ap₂ same left right))

@@ -14,4 +14,5 @@ header-of-spec =
     (λ c κs. search needs)
     (λ c κs. search needs)
     (λ c κs. search needs)
-    (λ c. simp (c .byte-at5 .ensures, c .before .byte-at4 .ensures, c .before .before .byte-at3 .ensures, c .before .before .before .byte-at2 .ensures, c .before .before .before .before .byte-at .ensures)))
+    (λ c κs. search needs)
+    (λ c. simp (c .header-from .ensures, c .before .byte-at5 .ensures, c .before .before .byte-at4 .ensures, c .before .before .before .byte-at3 .ensures, c .before .before .before .before .byte-at2 .ensures, c .before .before .before .before .before .byte-at .ensures)))

@@ -16,4 +16,4 @@ accepts-round-spec =
     (λ c κs. search needs)
     (λ c κs. search needs)
     (λ c κs. search needs)
-    (λ c. simp (c .judge .ensures, c .before .round-reply .ensures, c .before .before .round-challenge .ensures, c .before .before .before .round-turn .ensures, c .before .before .before .before .round-commitments .ensures, c .before .before .before .before .before .key-vector .ensures, c .before .before .before .before .before .before .header-of .ensures)))
+    (λ c. simp (c .judge .ensures, c .before .round-reply .ensures, c .before .before .round-challenge .ensures, c .before .before .before .round-turn .ensures, c .before .before .before .before .round-commitments .ensures, c .before .before .before .before .before .key-vector .ensures, c .before .before .before .before .before .before .domain-in .ensures)))

@@ -1,4 +1,6 @@
--- The callees' answers, put together. Assumes nothing.
+-- The tests one behind the other, left at the first that refuses. Assumes nothing.
+use native.Mathlib.Omega.{arith}
+use Rattle.record_form.proofs.Chains.{ends, goes-on}
 use Rattle.transcript.specs.Transcript.{judgeRefusal}
 use borrow.Author.Needs.{needs}
 use Rattle.transcript.proofs.judge_refusal.Statement.{statement}
@@ -10,9 +12,14 @@ judge-refusal-spec =
     tie.close
     (tie.spec
     (λ c κs. search needs)
+    (λ c.
+    ends _ _ _ (c .before .check .ensures) (λ none. omega (arith, c .if1 .taken, none)))
     (λ c κs. search needs)
     (λ c κs. search needs)
+    (λ c.
+    goes-on _ _ _ _ (c .before .before .before .before .check .ensures) (omega (arith, c .before .before .before .if1 .left))
+    (ends _ _ _ (simp (c .before .refusal-of .ensures, c .before .before .read .ensures .1)) (λ none. omega (arith, c .if2 .taken, none))))
     (λ c κs. search needs)
-    (λ c κs. search needs)
-    (λ c κs. search needs)
-    (λ c. simp (c .first2 .ensures, c .before .first .ensures, c .before .before .fit-refusal .ensures, c .before .before .before .refusal-of .ensures, c .before .before .before .before .read .ensures .1, c .before .before .before .before .before .check .ensures)))
+    (λ c.
+    goes-on _ _ _ _ (c .before .before .before .before .before .check .ensures) (omega (arith, c .before .before .before .before .if1 .left))
+    (goes-on _ _ (c .before .before .refusal-of .result) _ (simp (c .before .before .refusal-of .ensures, c .before .before .before .read .ensures .1)) (omega (arith, c .before .if2 .left)) (c .fit-refusal .ensures))))

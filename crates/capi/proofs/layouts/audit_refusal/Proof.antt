@@ -8,12 +8,12 @@ use borrow.Author.Needs.{needs}
 use Rattle.capi.proofs.layouts.audit_refusal.Statement.{statement}
 use Rattle.capi.proofs.layouts.audit_refusal.Tie as tie
 
--- what stands in front decides, unless it is 0
-in-front : (a b c front : ℕ) → front ≡ (a orElse b) → (front ≡ 0 → ⊥) → front ≡ (a orElse b orElse c)
-in-front a b c front e some = sym (first-decides front c some) ∙ rw e (orElse-assoc a b c)
+-- what comes before decides, unless it is 0
+decides : (a b c before : ℕ) → before ≡ (a orElse b) → (before ≡ 0 → ⊥) → before ≡ (a orElse b orElse c)
+decides a b c before e some = sym (first-decides before c some) ∙ rw e (orElse-assoc a b c)
 
-behind : (a b c front : ℕ) → front ≡ (a orElse b) → front ≡ 0 → c ≡ (a orElse b orElse c)
-behind a b c front e none = sym (later-decides front c none) ∙ rw e (orElse-assoc a b c)
+behind : (a b c before : ℕ) → before ≡ (a orElse b) → before ≡ 0 → c ≡ (a orElse b orElse c)
+behind a b c before e none = sym (later-decides before c none) ∙ rw e (orElse-assoc a b c)
 
 pub audit-refusal-spec : {M : Type 1} → statement M
 unfolding auditRefusal
@@ -25,5 +25,5 @@ audit-refusal-spec =
     (λ c κs. search needs)
     (λ c. search needs)
     (λ c κs. search needs)
-    (λ c. in-front _ _ _ _ (simp (c .before .first .ensures, c .before .before .unless .ensures, c .before .before .before .check .ensures)) (c .if1 .taken))
+    (λ c. decides _ _ _ _ (simp (c .before .first .ensures, c .before .before .unless .ensures, c .before .before .before .check .ensures)) (c .if1 .taken))
     (λ c. c .audit-number .ensures ∙ behind _ _ _ _ (simp (c .before .before .first .ensures, c .before .before .before .unless .ensures, c .before .before .before .before .check .ensures)) (c .before .if1 .left)))

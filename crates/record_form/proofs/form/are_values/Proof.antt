@@ -12,7 +12,5 @@ are-values-spec =
     (tie.spec
     (λ c κs. search needs)
     (λ c κs. search needs)
-    (λ c κs. search needs)
-    (λ c. simp (sym (c .before .before .before .before .is-scheme .ensures) ∙ c .before .before .before .if1 .taken, sym (c .before .before .are-sizes .ensures) ∙ c .before .if2 .taken) (c .is-rounds .ensures))
-    (λ c. simp (sym (c .before .before .before .is-scheme .ensures) ∙ c .before .before .if1 .taken, sym (c .before .are-sizes .ensures) ∙ c .if2 .left))
-    (λ c. simp (sym (c .before .is-scheme .ensures) ∙ c .if1 .left)))
+    (λ c. simp (sym (c .before .before .are-sizes .ensures) ∙ c .before .if1 .taken) (c .is-rounds .ensures))
+    (λ c. simp (sym (c .before .are-sizes .ensures) ∙ c .if1 .left)))

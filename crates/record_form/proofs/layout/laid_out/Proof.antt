@@ -1,12 +1,12 @@
 -- The callees' answers, put together. Assumes nothing.
 use native.Mathlib.Omega.{arith}
-use Rattle.record_form.specs.Record.{layoutOf, commitmentsLength, exchangeLength, exchangesLength}
+use Rattle.record_form.specs.Record.{layoutOf, commitmentsBody, exchangeLength, exchangesBody}
 use borrow.Author.Needs.{needs}
 use Rattle.record_form.proofs.layout.laid_out.Statement.{statement}
 use Rattle.record_form.proofs.layout.laid_out.Tie as tie
 
 pub laid-out-spec : {M : Type 1} → statement M
-unfolding layoutOf commitmentsLength exchangeLength exchangesLength
+unfolding layoutOf commitmentsBody exchangeLength exchangesBody
 laid-out-spec =
     tie.close
     (tie.spec

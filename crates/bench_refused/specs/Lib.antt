@@ -1,0 +1,2 @@
+-- What the contracts of this crate cite: the sessions that refuse.
+pub mod Refused

@@ -1,0 +1,25 @@
+-- The sizes, then the records one behind the other, left at the first that is refused. Assumes nothing.
+use Rattle.record_form.proofs.Chains.{ends, goes-on}
+use borrow.Author.Needs.{needs}
+use Rattle.comparable.proofs.differing_refusal.Statement.{statement}
+use Rattle.comparable.proofs.differing_refusal.Tie as tie
+
+pub differing-refusal-spec : {M : Type 1} → statement M
+differing-refusal-spec =
+    tie.close
+    (tie.spec
+    (λ c κs. search needs)
+    (λ c.
+    ends _ _ _ (c .before .fit-refusal .ensures) (c .if1 .taken))
+    (λ c κs. search needs)
+    (λ c.
+    goes-on _ _ _ _ (c .before .before .before .fit-refusal .ensures) (c .before .before .if1 .left) (ends _ _ _ (c .before .difference-refusal .ensures) (c .if2 .taken)))
+    (λ c κs. search needs)
+    (λ c.
+    goes-on _ _ _ _ (c .before .before .before .before .before .fit-refusal .ensures) (c .before .before .before .before .if1 .left)
+    (goes-on _ _ _ _ (c .before .before .before .difference-refusal .ensures) (c .before .before .if2 .left) (ends _ _ _ (c .before .difference-refusal2 .ensures) (c .if3 .taken))))
+    (λ c κs. search needs)
+    (λ c.
+    goes-on _ _ _ _ (c .before .before .before .before .before .before .fit-refusal .ensures) (c .before .before .before .before .before .if1 .left)
+    (goes-on _ _ _ _ (c .before .before .before .before .difference-refusal .ensures) (c .before .before .before .if2 .left)
+    (goes-on _ _ _ _ (c .before .before .difference-refusal2 .ensures) (c .before .if3 .left) (c .fourth-difference .ensures)))))
