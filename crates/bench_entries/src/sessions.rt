@@ -23,27 +23,27 @@ pub extern "C" fn bench_card<'a>(
     reply: &mut [u8],
 ) -> u8
     ensures { λ r. ⌜ (r ≡ cardReplyRefusal
-            (cardAnswered (now (system .entry)) scheme (now (v .entry)) (now (s .entry)) (now (lent .entry))
-                (length (now (commitments .entry))) alpha (length (now (middle .entry))))
-            challenge (length (now (reply .entry))))
+        (cardAnswered (now (system .entry)) scheme (now (v .entry)) (now (s .entry)) (now (lent .entry))
+        (length (now (commitments .entry))) alpha (length (now (middle .entry))))
+        challenge (length (now (reply .entry))))
         × (now (commitments .exit) ≡ kept
-            (commitRefusal (openCard (now (system .entry)) scheme (now (v .entry)) (now (s .entry)))
-                (now (system .entry)) (now (lent .entry)) (length (now (commitments .entry))))
-            (now (commitments .entry))
-            (sentCommitments (openCard (now (system .entry)) scheme (now (v .entry)) (now (s .entry)))
-                (now (system .entry)) (now (lent .entry))))
+        (commitRefusal (openCard (now (system .entry)) scheme (now (v .entry)) (now (s .entry)))
+        (now (system .entry)) (now (lent .entry)) (length (now (commitments .entry))))
+        (now (commitments .entry))
+        (sentCommitments (openCard (now (system .entry)) scheme (now (v .entry)) (now (s .entry)))
+        (now (system .entry)) (now (lent .entry))))
         × (now (middle .exit) ≡ kept
-            (alphaRefusal
-                (cardCommitted (now (system .entry)) scheme (now (v .entry)) (now (s .entry)) (now (lent .entry)) (length (now (commitments .entry))))
-                (now (system .entry)) alpha (length (now (middle .entry))))
-            (now (middle .entry))
-            (sentMiddle
-                (cardCommitted (now (system .entry)) scheme (now (v .entry)) (now (s .entry)) (now (lent .entry)) (length (now (commitments .entry))))
-                (now (system .entry)) alpha))
+        (alphaRefusal
+        (cardCommitted (now (system .entry)) scheme (now (v .entry)) (now (s .entry)) (now (lent .entry)) (length (now (commitments .entry))))
+        (now (system .entry)) alpha (length (now (middle .entry))))
+        (now (middle .entry))
+        (sentMiddle
+        (cardCommitted (now (system .entry)) scheme (now (v .entry)) (now (s .entry)) (now (lent .entry)) (length (now (commitments .entry))))
+        (now (system .entry)) alpha))
         × (now (reply .exit) ≡ kept r (now (reply .entry)) (sentReply
-            (cardAnswered (now (system .entry)) scheme (now (v .entry)) (now (s .entry)) (now (lent .entry))
-                (length (now (commitments .entry))) alpha (length (now (middle .entry))))
-            challenge)) ⌝ }
+        (cardAnswered (now (system .entry)) scheme (now (v .entry)) (now (s .entry)) (now (lent .entry))
+        (length (now (commitments .entry))) alpha (length (now (middle .entry))))
+        challenge)) ⌝ }
 {
     let opened = card::open(system, scheme, 1, v, s).card;
     let committed = card::commit(opened, system, lent, commitments).card;
@@ -66,12 +66,12 @@ pub extern "C" fn bench_carrier<'a>(
 ) -> bool
     ensures { λ r. ⌜ r ≡ kept
         (carrierReplyRefusal
-            (carrierAsked (now (system .entry)) scheme (now (v .entry)) (now (commitments .entry)) alpha (now (middle .entry)) challenge)
-            (now (system .entry)) (now (reply .entry)))
+        (carrierAsked (now (system .entry)) scheme (now (v .entry)) (now (commitments .entry)) alpha (now (middle .entry)) challenge)
+        (now (system .entry)) (now (reply .entry)))
         false
         (acceptsReply
-            (carrierAsked (now (system .entry)) scheme (now (v .entry)) (now (commitments .entry)) alpha (now (middle .entry)) challenge)
-            (now (system .entry)) (now (reply .entry))) ⌝ }
+        (carrierAsked (now (system .entry)) scheme (now (v .entry)) (now (commitments .entry)) alpha (now (middle .entry)) challenge)
+        (now (system .entry)) (now (reply .entry))) ⌝ }
 {
     let opened = carrier::open(system, scheme, 1, v).carrier;
     let committed = carrier::take_commitments(opened, commitments).carrier;
