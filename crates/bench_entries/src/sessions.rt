@@ -22,10 +22,28 @@ pub extern "C" fn bench_card<'a>(
     middle: &mut [u8],
     reply: &mut [u8],
 ) -> u8
-    ensures { λ r. ⌜ (r ≡ cardReplyRefusal (cardAnswered (now (system .entry)) scheme (now (v .entry)) (now (s .entry)) (now (lent .entry)) (length (now (commitments .entry))) alpha (length (now (middle .entry)))) challenge (length (now (reply .entry))))
-        × (now (commitments .exit) ≡ kept (commitRefusal (openCard (now (system .entry)) scheme (now (v .entry)) (now (s .entry))) (now (system .entry)) (now (lent .entry)) (length (now (commitments .entry)))) (now (commitments .entry)) (sentCommitments (openCard (now (system .entry)) scheme (now (v .entry)) (now (s .entry))) (now (system .entry)) (now (lent .entry))))
-        × (now (middle .exit) ≡ kept (alphaRefusal (cardCommitted (now (system .entry)) scheme (now (v .entry)) (now (s .entry)) (now (lent .entry)) (length (now (commitments .entry)))) (now (system .entry)) alpha (length (now (middle .entry)))) (now (middle .entry)) (sentMiddle (cardCommitted (now (system .entry)) scheme (now (v .entry)) (now (s .entry)) (now (lent .entry)) (length (now (commitments .entry)))) (now (system .entry)) alpha))
-        × (now (reply .exit) ≡ kept r (now (reply .entry)) (sentReply (cardAnswered (now (system .entry)) scheme (now (v .entry)) (now (s .entry)) (now (lent .entry)) (length (now (commitments .entry))) alpha (length (now (middle .entry)))) challenge)) ⌝ }
+    ensures { λ r. ⌜ (r ≡ cardReplyRefusal
+        (cardAnswered (now (system .entry)) scheme (now (v .entry)) (now (s .entry)) (now (lent .entry))
+        (length (now (commitments .entry))) alpha (length (now (middle .entry))))
+        challenge (length (now (reply .entry))))
+        × (now (commitments .exit) ≡ kept
+        (commitRefusal (openCard (now (system .entry)) scheme (now (v .entry)) (now (s .entry)))
+        (now (system .entry)) (now (lent .entry)) (length (now (commitments .entry))))
+        (now (commitments .entry))
+        (sentCommitments (openCard (now (system .entry)) scheme (now (v .entry)) (now (s .entry)))
+        (now (system .entry)) (now (lent .entry))))
+        × (now (middle .exit) ≡ kept
+        (alphaRefusal
+        (cardCommitted (now (system .entry)) scheme (now (v .entry)) (now (s .entry)) (now (lent .entry)) (length (now (commitments .entry))))
+        (now (system .entry)) alpha (length (now (middle .entry))))
+        (now (middle .entry))
+        (sentMiddle
+        (cardCommitted (now (system .entry)) scheme (now (v .entry)) (now (s .entry)) (now (lent .entry)) (length (now (commitments .entry))))
+        (now (system .entry)) alpha))
+        × (now (reply .exit) ≡ kept r (now (reply .entry)) (sentReply
+        (cardAnswered (now (system .entry)) scheme (now (v .entry)) (now (s .entry)) (now (lent .entry))
+        (length (now (commitments .entry))) alpha (length (now (middle .entry))))
+        challenge)) ⌝ }
 {
     let opened = card::open(system, scheme, 1, v, s).card;
     let committed = card::commit(opened, system, lent, commitments).card;
@@ -46,7 +64,14 @@ pub extern "C" fn bench_carrier<'a>(
     challenge: u8,
     reply: &'a [u8],
 ) -> bool
-    ensures { λ r. ⌜ r ≡ kept (carrierReplyRefusal (carrierAsked (now (system .entry)) scheme (now (v .entry)) (now (commitments .entry)) alpha (now (middle .entry)) challenge) (now (system .entry)) (now (reply .entry))) false (acceptsReply (carrierAsked (now (system .entry)) scheme (now (v .entry)) (now (commitments .entry)) alpha (now (middle .entry)) challenge) (now (system .entry)) (now (reply .entry))) ⌝ }
+    ensures { λ r. ⌜ r ≡ kept
+        (carrierReplyRefusal
+        (carrierAsked (now (system .entry)) scheme (now (v .entry)) (now (commitments .entry)) alpha (now (middle .entry)) challenge)
+        (now (system .entry)) (now (reply .entry)))
+        false
+        (acceptsReply
+        (carrierAsked (now (system .entry)) scheme (now (v .entry)) (now (commitments .entry)) alpha (now (middle .entry)) challenge)
+        (now (system .entry)) (now (reply .entry))) ⌝ }
 {
     let opened = carrier::open(system, scheme, 1, v).carrier;
     let committed = carrier::take_commitments(opened, commitments).carrier;

@@ -139,8 +139,8 @@ module _ (o : Terms) (k : Opens o) where
     pub carrier-round : w .history .carrierRound ≡ r
     pub card-fresh : r + 1 < o .rounds → w .card ≡ freshCard o (r + 1)
     pub commitments : List ℕ
-    pub middle : List ℕ
-    pub carrier-is : w .carrier ≡ carrierAt o TakeReply r commitments middle (d .challenge)
+    pub turn : List ℕ
+    pub carrier-is : w .carrier ≡ carrierAt o TakeReply r commitments turn (d .challenge)
     pub given : w .history .given .replies r ≡ some (sentReply (lending o d) (d .challenge))
 
   module _ (d : Draw) (fits : Fits o d) where
@@ -199,18 +199,18 @@ module _ (o : Terms) (k : Opens o) where
             carrier-round = refl;
             card-fresh = λ more. replied-next o r (o .system) (d .lent) more (k .few);
             commitments = c;
-            middle = m;
+            turn = m;
             carrier-is = refl;
             given = put-there _ r _ ∙ ap some (sent-reply-is o Reply r (d .lent) (d .challenge) ∙ sym reply-is);
           })))
 
       -- α, t1 and e1
-      middle : (g : Given) (a : Asked) (t : Taken) (j : Log Judgement) (c m : List ℕ) → passes o ≡ FivePass →
+      turned : (g : Given) (a : Asked) (t : Taken) (j : Log Judgement) (c m : List ℕ) → passes o ≡ FivePass →
           Link o (both (heldCard o (o .system) AnswerAlpha r (d .lent)) (carrierAt o SetAlpha r c m 0) r g a t j) →
           Plays o (both (heldCard o (o .system) AnswerAlpha r (d .lent)) (carrierAt o SetAlpha r c m 0) r g a t j)
           (setting o d ∷ answering o d ∷ taking-middle o d ∷ asking o d ∷ replying o d ∷ cs)
       unfolding AtPhase Fitting Unaltered effect heldCard cardWith openedCard answeredCard heldLent CardCalls.phaseNumber carrierAt carrierWith openedCarrier withAlpha withMiddle CarrierCalls.phaseNumber
-      middle g a t j c m five l =
+      turned g a t j c m five l =
           let element = fits .alpha-element (five-has-alpha (passes o) five) in
           goes _ _ _ l refl element tt
           (λ n1 l1. goes _ _ _ l1 refl (refl, refl, element) (refl, put-there _ r _)
@@ -250,7 +250,7 @@ module _ (o : Terms) (k : Opens o) where
           (λ five.
           subst (λ (scheme : Scheme). Plays o w (exchangeCalls o d scheme ++ cs)) (sym five)
           (starting w _ AnswerAlpha (Cd.five-behind (passes o) five) s (λ l.
-          begun _ _ _ _ AnswerAlpha SetAlpha _ (Ca.five-behind (passes o) five) (s .given) l (λ t′ c l′. middle _ _ t′ _ c _ five l′))))
+          begun _ _ _ _ AnswerAlpha SetAlpha _ (Ca.five-behind (passes o) five) (s .given) l (λ t′ c l′. turned _ _ t′ _ c _ five l′))))
 
     -- ---- the reply is taken
 
@@ -289,7 +289,7 @@ module _ (o : Terms) (k : Opens o) where
       committed d fit w r (exchanging o d ++ taking-it) (e .linked) (e .card-round) (e .card-fresh below) (λ l1 card-is given.
       exchanged d fit taking-it r
       (λ later s.
-      judged d fit later r (sessionCalls o ds) (s .linked) (s .carrier-round) (s .commitments) (s .middle) (s .carrier-is) (s .given) (λ l2 carrier-fresh.
+      judged d fit later r (sessionCalls o ds) (s .linked) (s .carrier-round) (s .commitments) (s .turn) (s .carrier-is) (s .given) (λ l2 carrier-fresh.
       rounds-play ds (r + 1) _ (omega (arith, all))
       (record {
         linked = l2;
@@ -315,7 +315,7 @@ module _ (o : Terms) (k : Opens o) where
   ahead-plays d [] r w fit all s fits =
       exchanged d fit (judging o d ∷ []) r
       (λ later q.
-      judged d fit later r [] (q .linked) (q .carrier-round) (q .commitments) (q .middle) (q .carrier-is) (q .given) (λ l2 carrier-fresh. omega (arith, q .carrier-round, all)))
+      judged d fit later r [] (q .linked) (q .carrier-round) (q .commitments) (q .turn) (q .carrier-is) (q .given) (λ l2 carrier-fresh. omega (arith, q .carrier-round, all)))
       w s
   ahead-plays d (next ∷ ds) r w fit all s (fit-next, fits) =
       let more : r + 1 < o .rounds = omega (arith, all) in
@@ -323,7 +323,7 @@ module _ (o : Terms) (k : Opens o) where
       exchanged d fit (committing o next ∷ taking-it) r
       (λ later q.
       committed next fit-next later (r + 1) taking-it (q .linked) (q .card-round) (q .card-fresh more) (λ l1 card-is given.
-      judged d fit (effect later (committing o next)) r (aheadFrom o next ds) l1 (q .carrier-round) (q .commitments) (q .middle) (q .carrier-is) (q .given) (λ l2 carrier-fresh.
+      judged d fit (effect later (committing o next)) r (aheadFrom o next ds) l1 (q .carrier-round) (q .commitments) (q .turn) (q .carrier-is) (q .given) (λ l2 carrier-fresh.
       ahead-plays next ds (r + 1) _ fit-next (omega (arith, all))
       (record {
         linked = l2;

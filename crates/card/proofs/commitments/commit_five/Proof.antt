@@ -19,7 +19,7 @@ commit-five-spec =
     (λ c κs. search needs)
     (λ c κs. search needs)
     (λ c. search needs)
-    (λ c. 
+    (λ c.
     let a = c .before .before .before .before .before .before .before .before .before .before .before .before .before .before .before .before .before .before .args in
     let five = c .before .before .before .before .before .before .before .before .before .before .before .before .before .before .before .before .before .before .pre .0 in (
       simp (committed-five (a .card) (a .system .now) (a .lent .now) five, c .card-with .ensures, c .before .before .before .before .before .before .before .before .before .before .before .before .read-lent .ensures, c .before .before .before .before .before .before .before .before .before .before .before .before .before .byte-at2 .ensures, c .before .before .before .before .before .before .before .before .before .before .before .before .before .before .byte-at .ensures),

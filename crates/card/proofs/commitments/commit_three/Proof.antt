@@ -23,7 +23,7 @@ commit-three-spec =
     (λ c κs. c .before .before .before .before .before .before .before .before .before .before .before .before .before .before .before .before .pre .2)
     (λ c κs. search needs)
     (λ c. search needs)
-    (λ c. 
+    (λ c.
     let a = c .before .before .before .before .before .before .before .before .before .before .before .before .before .before .before .before .before .before .before .before .args in
     let three = c .before .before .before .before .before .before .before .before .before .before .before .before .before .before .before .before .before .before .before .before .pre .0 in
     let e1 = ap (λ (w : P.Vectors (List ℕ) (List ℕ)). w .e1) (c .before .before .before .before .before .before .before .before .card-three .ensures) in (

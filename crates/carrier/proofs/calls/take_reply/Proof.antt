@@ -28,7 +28,7 @@ take-reply-spec =
     (λ c. search needs)
     (λ c κs. good _ _ _ (sym (c .before .before .before .before .before .before .before .reply-refusal .ensures) ∙ c .before .before .before .before .before .before .if1 .left))
     (λ c κs. search needs)
-    (λ c. 
+    (λ c.
     let a = c .before .before .before .before .before .before .before .before .before .before .before .before .args in
     let verdict : c .before .judge .result ≡ acceptsReply (a .c) (a .system .now) (a .reply .now) = simp (c .before .judge .ensures, c .before .before .before .before .carrier-domain .ensures) in
     (sym (c .before .before .before .before .before .before .before .before .if1 .left) ∙ c .before .before .before .before .before .before .before .before .before .reply-refusal .ensures, verdict, c .judged-carrier .ensures ∙ ap (judgedCarrier _) verdict)))
