@@ -48,13 +48,13 @@ exchanges-refusal-spec =
     (λ c κs. c .before .loop .inv .3)
     (λ c κs. search needs)
     (λ c κs. search needs)
-    (λ c. 
+    (λ c.
     end _ _ _ _ _ _
     (first-here _ _ _ _ (c .before .before .before .before .before .loop .inv .0) (here _ _ _ _ _ _ _ _ (c .before .before .before .of-rounds .ensures .0) (c .before .before .part .ensures) (c .before .exchange-refusal .ensures)) (c .if1 .taken) (c .before .before .before .before .loop-test .taken))
     (omega arith) (c .before .before .before .before .before .before .exchange-length .ensures .0))
     (λ c. omega arith)
     (λ c. omega arith)
-    (λ c. 
+    (λ c.
     (none-so-far _ _ _ _ (c .before .before .before .before .before .loop .inv .0) (here _ _ _ _ _ _ _ _ (c .before .before .before .of-rounds .ensures .0) (c .before .before .part .ensures) (c .before .exchange-refusal .ensures)) (c .if1 .left) (omega arith), omega arith, omega arith, omega arith))
-    (λ c. 
+    (λ c.
     end _ _ _ _ _ _ (sym (c .before .loop .inv .0)) (omega arith) (c .before .before .exchange-length .ensures .0)))
