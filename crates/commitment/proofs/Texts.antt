@@ -5,7 +5,7 @@ use mathlib.Core.List.{List, [], _∷_, _++_}
 use native.Mathlib.Nat.{lt-of-not-le, min-eq-left}
 use native.Mathlib.Decide.{decLe}
 use native.Mathlib.Omega.{arith}
-use lib.ListN.{length, take, drop, set, replicate, length-append, length-drop, List·getD-append, List·getD-eq-default}
+use lib.ListN.{length, take, drop, set, replicate, length-append, length-drop, length-take, List·getD-append, List·getD-eq-default}
 use lib.Seq.{ext-getD, getD-take, getD-drop, getD-append-add, length-take-le, take-all}
 use Rattle.slices.specs.Slices.{_!_, tabulate}
 use Rattle.slices.proofs.Tabulate.{length-tabulate, tabulate-at, tabulate-of}
@@ -124,6 +124,13 @@ content-is l room t h =
 pub text-as : (l k : List ℕ) (room : ℕ) (t : Text) → TextOf l room t → l ≡ k → TextOf k room t
 text-as l k room t h e = subst (λ (s : List ℕ). TextOf s room t) e h
 
--- where there is room for more there is room for none
+-- where there is room there is room for less
+pub less-room : (l : List ℕ) (more room : ℕ) (t : Text) → room ≤ more → TextOf l more t → TextOf l room t
+less-room l more room t less h = record { is = h .is; fits = omega (arith, h .fits, less) }
+
 pub no-more : (l : List ℕ) (room : ℕ) (t : Text) → TextOf l room t → TextOf l 0 t
-no-more l room t h = record { is = h .is; fits = omega (arith, h .fits) }
+no-more l room t h = less-room l room 0 t (omega arith) h
+
+-- of a vector at most 96 bytes are put behind a string
+pub take-short : (n : ℕ) (a : List ℕ) → length a ≡ 96 → length (take n a) ≤ 96
+take-short n a long = rw (length-take n a) (omega (arith, long))

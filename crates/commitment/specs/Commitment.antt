@@ -36,6 +36,10 @@ vectorsAt d = length (prefix d 0) + 32
 unfoldable pub vectorsIn : Domain → List ℕ → List ℕ
 vectorsIn d string = drop (vectorsAt d) string
 
--- "The longest string is 322 bytes.": two bytes, ρ, and three vectors of 96 elements
+-- the most that stands before ρ: the scheme byte and k
+abbrev pub prefixMost : ℕ
+prefixMost = 2
+
+-- "The longest string is 322 bytes.": the prefix, ρ, and three vectors of 96 elements
 abbrev pub longest : ℕ
-longest = 2 + 32 + 3 * 96
+longest = prefixMost + 32 + 3 * 96

@@ -5,11 +5,11 @@ use field::clamped;
 use scheme::Scheme;
 use scheme::byte_of;
 ghost use mathlib.Core.Path.{_≡_};
-ghost use Prim.Native.Nat.{_+_, _≤_};
+ghost use Prim.Native.Nat.{_+_, _*_, _≤_};
 ghost use mathlib.Core.List.{[], _++_};
 ghost use lib.ListN.{length, take, drop};
 ghost use Rattle.sha256.specs.Sha256.{sha256};
-ghost use Rattle.commitment.specs.Commitment.{prefix, hashedString, vectorsAt, longest};
+ghost use Rattle.commitment.specs.Commitment.{prefix, hashedString, vectorsAt, prefixMost, longest};
 ghost use Rattle.commitment.specs.Texts.{content, Room, TextOf, Appended};
 
 // What stands in a hashed string before ρ, besides the number of the commitment.
@@ -25,7 +25,7 @@ pub struct Text {
 
 // The empty string.
 pub fn empty() -> Text
-    ensures { λ r. ⌜ TextOf [] 3 r ⌝ }
+    ensures { λ r. ⌜ TextOf [] longest r ⌝ }
 {
     Text {
         bytes: [0; 322],
@@ -33,11 +33,18 @@ pub fn empty() -> Text
     }
 }
 
-// Where the vectors stand in a string: behind the domain, the number and ρ.
+// How many bytes stand before ρ.
+fn prefix_length(d: Domain) -> usize
+    ensures { λ r. ⌜ (r ≡ length (prefix d 0)) × (r ≤ prefixMost) ⌝ }
+{
+    2
+}
+
+// Where the vectors stand in a string: behind the prefix and ρ.
 pub fn vectors_at(d: Domain) -> usize
     ensures { λ r. ⌜ (r ≡ vectorsAt d) × (r ≤ longest) ⌝ }
 {
-    34
+    prefix_length(d) + 32
 }
 
 // The bytes with s in the place of those from `at` on.
@@ -52,7 +59,7 @@ fn put(bytes: [u8; 322], at: usize, s: &[u8]) -> [u8; 322]
 
 // The bytes before the vectors.
 fn start(d: Domain, k: u8, rho: [u8; 32]) -> Text
-    ensures { λ r. ⌜ TextOf (prefix d k ++ rho) 3 r ⌝ }
+    ensures { λ r. ⌜ TextOf (prefix d k ++ rho) (3 * 96) r ⌝ }
 {
     let scheme = d.scheme;
     let first = byte_of(scheme);
@@ -60,14 +67,14 @@ fn start(d: Domain, k: u8, rho: [u8; 32]) -> Text
     bytes[0] = first;
     bytes[1] = k;
     Text {
-        bytes: put(bytes, 2, &rho),
+        bytes: put(bytes, prefix_length(d), &rho),
         len: vectors_at(d),
     }
 }
 
 // The string with n elements of v behind it.
 fn append(t: Text, v: [u8; 96], n: u8) -> Text
-    requires { ⌜ Room 1 t ⌝ }
+    requires { ⌜ Room (length (take n v)) t ⌝ }
     ensures { λ r. ⌜ Appended t (take n v) r ⌝ }
 {
     let bytes = t.bytes;
@@ -81,7 +88,7 @@ fn append(t: Text, v: [u8; 96], n: u8) -> Text
 
 // The string of commitment k with two vectors: ρ, then na elements of a and nb of b.
 pub fn string_two(d: Domain, k: u8, rho: [u8; 32], a: [u8; 96], na: u8, b: [u8; 96], nb: u8) -> Text
-    ensures { λ r. ⌜ TextOf (hashedString d k rho (take na a ++ take nb b)) 1 r ⌝ }
+    ensures { λ r. ⌜ TextOf (hashedString d k rho (take na a ++ take nb b)) 96 r ⌝ }
 {
     append(append(start(d, k, rho), a, na), b, nb)
 }

@@ -288,4 +288,4 @@ pub same-verdict : (b : List ℕ) (d : Domain) (v c c′ turn turn′ : List ℕ
     accepts b d v c turn challenge reply ≡ accepts b d v c′ turn′ challenge reply
 unfolding accepts
 same-verdict b d v c c′ turn turn′ challenge reply hc ht =
-    ap (allOpen d c) (same-openings b (d .scheme) v turn turn′ challenge reply ht) ∙ same-open d c c′ hc (openings b (d .scheme) v turn′ challenge reply)
+    ap (allOpen d c) (same-openings b _ v turn turn′ challenge reply ht) ∙ same-open d c c′ hc _

@@ -31,8 +31,8 @@ module _ (d : Domain) (c : List ℕ) where
   one-opens os one t k h number = judged (openingAt os 0) 0 t k h number ∙ and-true _ ∙ ap (allOpen d c) (sym one)
 
   pub both-open : (os : List Opening) → os ≡ openingAt os 0 ∷ openingAt os 1 ∷ [] → (t u : Text) (j k : ℕ) →
-      TextOf (stringOf d (openingAt os 0)) 1 t → TextOf (stringOf d (openingAt os 1)) 1 u → j ≡ openingAt os 0 .k → k ≡ openingAt os 1 .k →
+      TextOf (stringOf d (openingAt os 0)) 96 t → TextOf (stringOf d (openingAt os 1)) 96 u → j ≡ openingAt os 0 .k → k ≡ openingAt os 1 .k →
       (tested t j && tested u k) ≡ allOpen d c os
   unfolding allOpen
   both-open os two t u j k ht hu first second =
-      ap₂ _&&_ (judged (openingAt os 0) 1 t j ht first) (judged (openingAt os 1) 1 u k hu second ∙ and-true _) ∙ ap (allOpen d c) (sym two)
+      ap₂ _&&_ (judged (openingAt os 0) 96 t j ht first) (judged (openingAt os 1) 96 u k hu second ∙ and-true _) ∙ ap (allOpen d c) (sym two)

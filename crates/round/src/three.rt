@@ -100,7 +100,7 @@ pub fn first_opening(
     reply: ReplyThree,
 ) -> Text
     requires { ⌜ systemRefusal (now system) ≡ 0 ⌝ }
-    ensures { λ t. ⌜ TextOf (stringOf d (openingAt (openingsThree (now (system .entry)) v challenge reply) 0)) 1 t ⌝ }
+    ensures { λ t. ⌜ TextOf (stringOf d (openingAt (openingsThree (now (system .entry)) v challenge reply) 0)) 96 t ⌝ }
 {
     let q = byte_at(system, 0);
     let n = byte_at(system, 1);
@@ -125,7 +125,7 @@ pub fn first_opening(
 
 // The string of the second opening, whatever v: of c1 for challenge 2, else of c2.
 pub fn second_opening(system: &[u8], d: Domain, challenge: u8, reply: ReplyThree) -> Text
-    ensures { λ t. ⌜ Room 1 t × ((v : List ℕ) → TextOf (stringOf d (openingAt (openingsThree (now (system .entry)) v challenge reply) 1)) 1 t) ⌝ }
+    ensures { λ t. ⌜ Room 96 t × ((v : List ℕ) → TextOf (stringOf d (openingAt (openingsThree (now (system .entry)) v challenge reply) 1)) 96 t) ⌝ }
 {
     let n = byte_at(system, 1);
     let m = byte_at(system, 2);

@@ -12,7 +12,8 @@ unfoldable pub byteOf : Scheme → ℕ
 byteOf ThreePass = 3
 byteOf FivePass = 5
 
--- the one place where a byte is decoded. A byte that is no scheme's gives one all the same: `isScheme` tells, and every entry refuses it
+-- the one place where a byte is decoded: each scheme's byte gives it back (`decoded`, proofs/Bytes.antt). Any other byte decodes to `FivePass`, and `isScheme`
+-- is false of it: every entry refuses it
 unfoldable pub schemeOf : ℕ → Scheme
 schemeOf byte = cond (eqb byte 3) ThreePass FivePass
 

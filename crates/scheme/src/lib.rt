@@ -22,7 +22,7 @@ pub fn byte_of(scheme: Scheme) -> u8
     }
 }
 
-// The scheme of a byte that is one's.
+// The scheme of a byte; of a byte that is no scheme's, five passes, which `is_scheme` tells.
 pub fn scheme_of(byte: u8) -> Scheme
     ensures { λ r. ⌜ r ≡ schemeOf byte ⌝ }
 {

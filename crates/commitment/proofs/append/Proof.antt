@@ -21,6 +21,9 @@ part-length c = length-take-le _ _ (omega (arith, vector-length c))
 part-is : (c : tie.After-clamped) → take (c .clamped .result) (c .before .before .args .t2) ≡ take (c .before .before .args .n) (c .before .before .args .t2)
 part-is c = rw (c .clamped .ensures) (take-vector (c .before .before .args .n) (c .before .before .args .t2) (vector-length c))
 
+part-size : (c : tie.After-clamped) → length (take (c .before .before .args .n) (c .before .before .args .t2)) ≡ c .clamped .result
+part-size c = sym (ap length (part-is c)) ∙ part-length c
+
 pub append-spec : {M : Type 1} → statement M
 append-spec =
     tie.close
@@ -28,7 +31,7 @@ append-spec =
     (λ c κs. search needs)
     (λ c. search needs)
     (λ c. sym (part-length (c .before)))
-    (λ c κs. rw (part-length (c .before)) (omega arith))
+    (λ c κs. rw (part-length (c .before)) (omega (arith, part-size (c .before))))
     (λ c. search needs)
     (λ c.
     let at = c .before .before in
@@ -39,8 +42,8 @@ append-spec =
           record {
             is =
                 same-text _ (l ++ take (args .n) (args .t2)) _
-                (text-put l (take (at .clamped .result) (args .t2)) (args .t .bytes) _ (args .t .len) (text-bytes _ l e) (sym (text-len _ l e)) (rw (part-length at) (omega arith)) (c .put .ensures) ∙ ap (λ (s : List ℕ). zeroBeyond (l ++ s)) (part-is at))
+                (text-put l (take (at .clamped .result) (args .t2)) (args .t .bytes) _ (args .t .len) (text-bytes _ l e) (sym (text-len _ l e)) (rw (part-length at) (omega (arith, part-size at))) (c .put .ensures) ∙ ap (λ (s : List ℕ). zeroBeyond (l ++ s)) (part-is at))
                 (simp (length-append, ← part-is at, part-length at, ← text-len _ l e));
-            fits = omega (arith, h .fits);
+            fits = omega (arith, h .fits, part-size at);
           };
     }))

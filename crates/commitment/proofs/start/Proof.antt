@@ -1,5 +1,5 @@
 -- ρ is put behind the scheme and the number. Assumes nothing.
-use mathlib.Core.Path.{_≡_, refl, ap, _∙_}
+use mathlib.Core.Path.{_≡_, sym, ap, _∙_}
 use mathlib.Core.List.{[], _∷_}
 use Prim.Native.Nat.{ℕ}
 use native.Mathlib.Omega.{arith}
@@ -19,15 +19,17 @@ start-spec =
     (λ c κs. search needs)
     (λ c. search needs)
     (λ c. search needs)
+    (λ c κs. search needs)
     (λ c. search needs)
     (λ c κs. search needs)
     (λ c κs. search needs)
     (λ c.
-    let args = c .before .before .before .before .args in
+    let args = c .before .before .before .before .before .args in
     let long : length (args .t3) ≡ 32 = search needs in
-    let byte = c .before .before .before .byte-of .ensures in
+    let byte = c .before .before .before .before .byte-of .ensures in
+    let place = c .before .before .before .prefix-length .ensures .0 in
     let two = text-start _ _ ∙ ap (λ (x : ℕ). zeroBeyond (x ∷ args .k ∷ [])) byte in
     record {
-      is = same-text _ _ _ (text-put (prefix (args .d) (args .k)) (args .t3) _ _ 2 two refl (omega arith) (c .before .put .ensures)) (omega (arith, c .vectors-at .ensures .0));
+      is = same-text _ _ _ (text-put (prefix (args .d) (args .k)) (args .t3) _ _ _ two (sym place) (omega (arith, place, long)) (c .before .put .ensures)) (omega (arith, c .vectors-at .ensures .0));
       fits = omega (arith, c .vectors-at .ensures .0);
     }))

@@ -17,7 +17,7 @@ opening-three-spec =
     (λ c κs. search needs)
     (λ c.
     let number = c .before .before .first-number .ensures _ _ _ in
-    text-as _ _ 0 _ (no-more _ 1 _ (c .first-opening .ensures)) (ap (stringOf _) (first-of-two _ _ (three-are-two _ _ _ _) (c .before .if1 .taken ∙ number))))
+    text-as _ _ 0 _ (no-more _ 96 _ (c .first-opening .ensures)) (ap (stringOf _) (first-of-two _ _ (three-are-two _ _ _ _) (c .before .if1 .taken ∙ number))))
     (λ c.
     let number = c .before .before .first-number .ensures _ _ _ in
-    text-as _ _ 0 _ (no-more _ 1 _ (c .second-opening .ensures .1 _)) (ap (stringOf _) (second-of-two _ _ (three-are-two _ _ _ _) (λ e. c .before .if1 .left (e ∙ sym number))))))
+    text-as _ _ 0 _ (no-more _ 96 _ (c .second-opening .ensures .1 _)) (ap (stringOf _) (second-of-two _ _ (three-are-two _ _ _ _) (λ e. c .before .if1 .left (e ∙ sym number))))))

@@ -23,4 +23,4 @@ commitments-five-spec =
     (λ c κs. search needs)
     (λ c κs. search needs)
     (λ c κs. search needs)
-    (λ c. simp (c .digest2 .ensures, content-is _ 1 _ (c .before .string-two .ensures), c .before .before .digest .ensures, content-is _ 0 _ (c .before .before .before .string-three .ensures), c .before .before .before .before .add-vectors .ensures, c .before .before .before .before .before .g .ensures, c .before .before .before .before .before .before .r1-of .ensures, c .before .before .before .before .before .before .before .before .before .byte-at3 .ensures, c .before .before .before .before .before .before .before .before .before .before .byte-at2 .ensures, c .before .before .before .before .before .before .before .before .before .before .before .byte-at .ensures)))
+    (λ c. simp (c .digest2 .ensures, content-is _ 96 _ (c .before .string-two .ensures), c .before .before .digest .ensures, content-is _ 0 _ (c .before .before .before .string-three .ensures), c .before .before .before .before .add-vectors .ensures, c .before .before .before .before .before .g .ensures, c .before .before .before .before .before .before .r1-of .ensures, c .before .before .before .before .before .before .before .before .before .byte-at3 .ensures, c .before .before .before .before .before .before .before .before .before .before .byte-at2 .ensures, c .before .before .before .before .before .before .before .before .before .before .before .byte-at .ensures)))

@@ -29,4 +29,4 @@ opening-five-spec =
     (λ c. text-as _ _ 0 _ (c .string-three .ensures) (simp (c .before .before .before .before .before .before .match .keys1, c .before .sub-vectors2 .ensures, c .before .before .mul-vector2 .ensures, c .before .before .before .f .ensures, c .before .before .before .before .sub-vectors .ensures, c .before .before .before .before .before .mul-vector .ensures, c .before .before .before .before .before .before .before .before .before .before .before .byte-at3 .ensures, c .before .before .before .before .before .before .before .before .before .before .before .before .byte-at2 .ensures, c .before .before .before .before .before .before .before .before .before .before .before .before .before .byte-at .ensures)))
     (λ c.
     let a = c .before .before .before .before .before .before .before .before .before .before .before .args in
-    text-as _ _ 0 _ (no-more _ 1 _ (c .string-two .ensures)) (simp (five-last (a .system .now) (a .alpha) (a .v) (a .sent) (a .challenge) (a .reply) (c .before .before .match .rest .1), c .before .unmasked-by .ensures, c .before .before .before .before .before .before .before .byte-at3 .ensures, c .before .before .before .before .before .before .before .before .byte-at2 .ensures, c .before .before .before .before .before .before .before .before .before .byte-at .ensures))))
+    text-as _ _ 0 _ (no-more _ 96 _ (c .string-two .ensures)) (simp (five-last (a .system .now) (a .alpha) (a .v) (a .sent) (a .challenge) (a .reply) (c .before .before .match .rest .1), c .before .unmasked-by .ensures, c .before .before .before .before .before .before .before .byte-at3 .ensures, c .before .before .before .before .before .before .before .before .byte-at2 .ensures, c .before .before .before .before .before .before .before .before .before .byte-at .ensures))))

@@ -17,4 +17,4 @@ commitments-three-spec =
     (λ c κs. search needs)
     (λ c κs. search needs)
     (λ c κs. search needs)
-    (λ c. simp (c .digest3 .ensures, content-is _ 1 _ (c .before .string-two3 .ensures), c .before .before .digest2 .ensures, content-is _ 1 _ (c .before .before .before .string-two2 .ensures), c .before .before .before .before .digest .ensures, content-is _ 1 _ (c .before .before .before .before .before .string-two .ensures))))
+    (λ c. simp (c .digest3 .ensures, content-is _ 96 _ (c .before .string-two3 .ensures), c .before .before .digest2 .ensures, content-is _ 96 _ (c .before .before .before .string-two2 .ensures), c .before .before .before .before .digest .ensures, content-is _ 96 _ (c .before .before .before .before .before .string-two .ensures))))

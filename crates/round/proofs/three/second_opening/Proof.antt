@@ -18,8 +18,8 @@ second-opening-spec =
     (λ c κs. search needs)
     (λ c κs. search needs)
     (λ c κs. search needs)
-    (λ c. (c .string-two .ensures .fits, λ v. text-as _ _ 1 _ (c .string-two .ensures) (simp (c .before .match .keys1, c .before .before .before .before .before .byte-at2 .ensures, c .before .before .before .before .before .before .byte-at .ensures))))
-    (λ c. (c .string-two2 .ensures .fits, λ v. text-as _ _ 1 _ (c .string-two2 .ensures) (simp (c .before .match .keys2, c .before .before .before .before .before .byte-at2 .ensures, c .before .before .before .before .before .before .byte-at .ensures))))
+    (λ c. (c .string-two .ensures .fits, λ v. text-as _ _ 96 _ (c .string-two .ensures) (simp (c .before .match .keys1, c .before .before .before .before .before .byte-at2 .ensures, c .before .before .before .before .before .before .byte-at .ensures))))
+    (λ c. (c .string-two2 .ensures .fits, λ v. text-as _ _ 96 _ (c .string-two2 .ensures) (simp (c .before .match .keys2, c .before .before .before .before .before .byte-at2 .ensures, c .before .before .before .before .before .before .byte-at .ensures))))
     (λ c.
     let a = c .before .before .before .before .before .before .before .before .args in
-    (c .string-two3 .ensures .fits, λ v. text-as _ _ 1 _ (c .string-two3 .ensures) (simp (three-last (a .system .now) v (a .challenge) (a .reply) (c .before .match .rest .0 .1) (c .before .match .rest .1), c .before .before .before .before .before .byte-at2 .ensures, c .before .before .before .before .before .before .byte-at .ensures)))))
+    (c .string-two3 .ensures .fits, λ v. text-as _ _ 96 _ (c .string-two3 .ensures) (simp (three-last (a .system .now) v (a .challenge) (a .reply) (c .before .match .rest .0 .1) (c .before .match .rest .1), c .before .before .before .before .before .byte-at2 .ensures, c .before .before .before .before .before .before .byte-at .ensures)))))
