@@ -9,7 +9,7 @@ use slices::equal;
 const FINDING: usize = 752;
 
 // How a case went whose finding is the piece at `at`: the number and every byte must be those expected.
-pub fn compared(file: &[u8], at: usize, number: u8, audited: Audited) -> Outcome {
+pub fn as_expected(file: &[u8], at: usize, number: u8, audited: Audited) -> Outcome {
     let mut expected = [0u8; 752];
     let piece = cases::load(file, at, &mut expected);
     let finding = audited.finding;

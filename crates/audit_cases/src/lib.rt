@@ -1,7 +1,7 @@
 // Cases of the audits.
 mod finding;
 
-use crate::finding::compared;
+use crate::finding::as_expected;
 use auditing::audit_five;
 use auditing::audit_three;
 use cases::Head;
@@ -75,12 +75,12 @@ fn call_case<'a>(
     d: &mut [u8],
 ) -> Outcome {
     if head.kind == THREE {
-        return compared(file, at, head.number, audit_three(system, a, b, c));
+        return as_expected(file, at, head.number, audit_three(system, a, b, c));
     }
     if head.kind != FIVE {
         return cases::malformed();
     }
     let of_d = cases::load(file, at, d);
     let audited = audit_five(system, a, b, c, part(d, 0, of_d.length));
-    compared(file, of_d.next, head.number, audited)
+    as_expected(file, of_d.next, head.number, audited)
 }

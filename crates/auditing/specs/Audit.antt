@@ -1,5 +1,5 @@
--- Document 01, "Audit": what an audit answers to a system and records, any bytes at all. One definition serves both schemes; three passes have no fourth record,
--- and what stands in its place is not looked at (`no-fourth`, auditing/proofs/Outcomes.antt).
+-- Document 01, "Audit": what an audit answers to a system and records, any bytes at all. One definition serves both schemes; three passes have no fourth
+-- record, and what stands in its place is not looked at (`no-fourth`, auditing/proofs/Outcomes.antt).
 use Prim.Native.Nat.{ℕ, _-_}
 use mathlib.Core.Bool.{cond}
 use mathlib.Core.List.{List}

@@ -1,13 +1,12 @@
--- The sessions that refused calls are timed on: in a phase that is told by its number, as `phaseNumber` counts them, and all else zero.
+-- The sessions that refused calls are timed on: a closed one, put in a phase that is told by its number, as `phaseNumber` counts them.
 use Prim.Native.Nat.{ℕ}
 use mathlib.Core.Bool.{cond}
 use lib.Dec.{eqb}
-use Rattle.slices.specs.Slices.{zeros}
 use Rattle.session_state.specs.declared.Verdict.the-variants.{None}
 use Rattle.card_state.specs.declared.session.CardPhase.{CardPhase}
 use Rattle.card_state.specs.declared.session.CardPhase.the-variants.{Commit, AnswerAlpha, Reply, Closed as ClosedCard}
 use Rattle.card_state.specs.declared.session.Card.{Card}
-use Rattle.card_state.specs.Card.{closedCard, cardWith, noLent}
+use Rattle.card_state.specs.Card.{closedCard, cardWith, heldLent}
 use Rattle.carrier_state.specs.declared.session.CarrierPhase.{CarrierPhase}
 use Rattle.carrier_state.specs.declared.session.CarrierPhase.the-variants.{TakeCommitments, SetAlpha, TakeMiddle, SetChallenge, TakeReply}
 use Rattle.carrier_state.specs.declared.session.CarrierPhase.the-variants.{Closed as ClosedCarrier}
@@ -18,7 +17,7 @@ unfoldable pub cardPhase : ℕ → CardPhase
 cardPhase number = cond (eqb number 0) (ClosedCard None) (cond (eqb number 1) Commit (cond (eqb number 2) AnswerAlpha Reply))
 
 unfoldable pub cardIn : ℕ → Card
-cardIn phase = cardWith closedCard (cardPhase phase) 0 noLent (zeros 96)
+cardIn phase = cardWith closedCard (cardPhase phase) (closedCard .round) (heldLent closedCard) (closedCard .e1)
 
 unfoldable pub carrierPhase : ℕ → CarrierPhase
 carrierPhase number =
@@ -27,4 +26,6 @@ carrierPhase number =
     (cond (eqb number 2) SetAlpha (cond (eqb number 3) TakeMiddle (cond (eqb number 4) SetChallenge TakeReply))))
 
 unfoldable pub carrierIn : ℕ → Carrier
-carrierIn phase = carrierWith (closedCarrier None 0) (carrierPhase phase) 0 (zeros 96) (zeros 193) 0
+carrierIn phase =
+    let closed = closedCarrier None 0 in
+    carrierWith closed (carrierPhase phase) (closed .accepted) (closed .commitments) (closed .turn) (closed .challenge)

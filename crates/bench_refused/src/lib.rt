@@ -1,5 +1,5 @@
-// What the benchmarks in bench/ call to time refused calls, under C names: a call on a session of which only the phase is told,
-// all else zero. Nothing is opened, so that no time is spent on anything else.
+// What the benchmarks in bench/ call to time refused calls, under C names: a call on a closed session that is put in a
+// phase. Nothing is opened, so that no time is spent on anything else.
 //
 // Nothing here is part of the product. These are not among `bench_entries`, whose archive would then have two callers of each
 // call, and its calls of a round would no longer be one function, whose stack use is measured.
@@ -7,7 +7,7 @@ use card_state::Card;
 use card_state::CardPhase;
 use card_state::card_with;
 use card_state::closed_card;
-use card_state::no_lent;
+use card_state::held_lent;
 use carrier_state::Carrier;
 use carrier_state::CarrierPhase;
 use carrier_state::carrier_with;
@@ -36,8 +36,14 @@ fn card_in(phase: u8) -> Card
     ensures { λ r. ⌜ r ≡ cardIn phase ⌝ }
 {
     let closed = closed_card();
-    let lent = no_lent();
-    card_with(closed, card_phase(phase), 0, lent, [0; 96])
+    let e1 = closed.e1;
+    card_with(
+        closed,
+        card_phase(phase),
+        closed.round,
+        held_lent(closed),
+        e1,
+    )
 }
 
 // A carrier's phase by its number.
@@ -58,7 +64,16 @@ fn carrier_in(phase: u8) -> Carrier
     ensures { λ r. ⌜ r ≡ carrierIn phase ⌝ }
 {
     let closed = closed_carrier(Verdict::None, 0);
-    carrier_with(closed, carrier_phase(phase), 0, [0; 96], [0; 193], 0)
+    let sent = closed.commitments;
+    let turn = closed.turn;
+    carrier_with(
+        closed,
+        carrier_phase(phase),
+        closed.accepted,
+        sent,
+        turn,
+        closed.challenge,
+    )
 }
 
 // The card's commit: answers its refusal.

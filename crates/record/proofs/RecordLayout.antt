@@ -14,7 +14,7 @@ use Rattle.refusal.proofs.Refusals.{first-zero, later-zero, test-holds, equal-h
 use Rattle.field.specs.Vector.{allBelow}
 use Rattle.scheme.specs.Scheme.{byteOf, schemeOf, isScheme}
 use Rattle.scheme.proofs.Bytes.{decoded, is-scheme}
-use Rattle.system.proofs.SystemLayout.{all-below-at, at-all-below}
+use Rattle.field.proofs.Elements.{all-below-at, at-all-below}
 use Rattle.record_form.specs.declared.layout.Header.{Header}
 use Rattle.record_form.specs.declared.form.Check.the-variants.{FileOrder}
 use Rattle.record_form.specs.Record.{commitmentsBody, exchangesBody, layoutOf, recordLength, word, entry, table, head, Fields, written, Valid, WellFormedRecord}

@@ -9,7 +9,8 @@ use Rattle.slices.proofs.Booleans.{and-left, and-right}
 use Rattle.refusal.proofs.Refusals.{first-zero, later-zero, test-holds, both-zero, unless-holds, firstOf-each, firstOf-none}
 use Rattle.field.specs.Vector.{allBelow}
 use Rattle.system.specs.System.{areSizes}
-use Rattle.system.proofs.SystemLayout.{Sizes, sizes, sizes-true, all-below-at, at-all-below}
+use Rattle.field.proofs.Elements.{all-below-at, at-all-below}
+use Rattle.system.proofs.SystemLayout.{Sizes, sizes, sizes-true}
 use Rattle.scheme.specs.Scheme.{isRounds, challenges}
 use Rattle.record_form.specs.declared.layout.Header.{Header}
 use Rattle.record_form.specs.declared.form.Check.{Check}

@@ -50,20 +50,21 @@ fn exchange_refusal(check: Check, h: Header, exchange: &[u8]) -> u8
     }
 }
 
-// The first refusal over all rounds.
+// The first refusal over all rounds; it ends there.
 pub fn exchanges_refusal(check: Check, h: Header, exchanges: &[u8]) -> u8
     ensures { λ r. ⌜ r ≡ exchangesRefusal check h (now (exchanges .entry)) ⌝ }
 {
     let scheme = h.scheme;
     let each = exchange_length(scheme, h.n, h.m);
     let rounds = h.rounds;
-    let mut refused = 0;
     let mut r = 0;
     while r < rounds {
         let at = of_rounds(r, each);
         let found = exchange_refusal(check, h, part(exchanges, at, each));
-        refused = first(refused, found);
+        if found != 0 {
+            return found;
+        }
         r += 1;
     }
-    refused
+    0
 }

@@ -9,7 +9,7 @@ use borrow.Author.Tests.{eq-eqb}
 use Rattle.refusal.proofs.Refusals.{first-zero, later-zero, test-holds, equal-holds, both-zero, unless-holds}
 use Rattle.field.specs.Vector.{allBelow}
 use Rattle.scheme.specs.Scheme.{isScheme}
-use Rattle.system.proofs.SystemLayout.{all-below-at, at-all-below}
+use Rattle.field.proofs.Elements.{all-below-at, at-all-below}
 use Rattle.record_form.specs.declared.form.Check.the-variants.{Elements, Challenges}
 use Rattle.record.specs.declared.Reading.the-variants.{Good}
 use Rattle.record_form.specs.Record.{Fields, commitmentsBody, exchangesBody, layoutOf, recordLength, written, Valid, fieldsIn}

@@ -3,7 +3,6 @@
 // The entry `report` takes any bytes. It writes the text to the front of a lent buffer of 8,192 bytes, which holds the longest
 // text, and answers the text's length; a buffer of another length stays as it is, and the answer is 0.
 use record::header_of;
-use refusal::first;
 use refusal::unless;
 use report_lines::refused_line;
 use report_lines::round_line;
@@ -58,15 +57,15 @@ fn record_part(input: &[u8]) -> &[u8]
     )
 }
 
-// The refusal of an input, 0 for none.
+// The refusal of an input, 0 for none; it ends at the first.
 fn report_refusal(input: &[u8]) -> u8
     ensures { λ r. ⌜ r ≡ reportRefusal (now (input .entry)) ⌝ }
 {
     let too_long = unless(input.len() <= 65536, 2);
-    first(
-        too_long,
-        judge_refusal(system_part(input), record_part(input)),
-    )
+    if too_long != 0 {
+        return too_long;
+    }
+    judge_refusal(system_part(input), record_part(input))
 }
 
 // One accepted round more, or not.

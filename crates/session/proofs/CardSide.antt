@@ -11,7 +11,8 @@ use native.Mathlib.Omega.{arith}
 use lib.ListN.{length, take}
 use Rattle.field.specs.Vector.{Elements, allBelow}
 use Rattle.system.specs.System.{qOf, nOf, mOf, systemRefusal}
-use Rattle.system.proofs.SystemLayout.{all-below-at, at-all-below, sizes-has, sizes-true, accepted}
+use Rattle.field.proofs.Elements.{all-below-at, at-all-below}
+use Rattle.system.proofs.SystemLayout.{sizes-has, sizes-true, accepted}
 use Rattle.scheme.specs.declared.Scheme.{Scheme}
 use Rattle.scheme.specs.declared.Scheme.the-variants.{ThreePass, FivePass}
 use Rattle.scheme.specs.Scheme.{challenges, drawnLength, commitmentsLength, lentLength, replyLength}

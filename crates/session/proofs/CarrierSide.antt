@@ -12,7 +12,8 @@ use borrow.Author.Tests.{eq-eqb, lt-ltb, ltb-true}
 use Rattle.refusal.proofs.Refusals.{first-zero, later-zero, test-holds, equal-holds, both-zero, unless-holds}
 use Rattle.field.specs.Vector.{Elements, allBelow}
 use Rattle.system.specs.System.{qOf, nOf, mOf, systemRefusal, systemAgainst}
-use Rattle.system.proofs.SystemLayout.{all-below-at, at-all-below, sizes-has}
+use Rattle.field.proofs.Elements.{all-below-at, at-all-below}
+use Rattle.system.proofs.SystemLayout.{sizes-has}
 use Rattle.scheme.specs.Scheme.{challenges, commitmentsLength, vectorsLength, replyLength}
 use Rattle.session_state.proofs.States.{state-due, due-state}
 use Rattle.carrier_state.specs.declared.session.CarrierPhase.{CarrierPhase}

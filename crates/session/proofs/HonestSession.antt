@@ -10,7 +10,7 @@ use borrow.Author.Tests.{leb-true}
 use Rattle.slices.proofs.Booleans.{and-left, and-right}
 use Rattle.scheme.specs.Scheme.{isRounds}
 use Rattle.system.specs.System.{nOf}
-use Rattle.exchange.proofs.Formed.{held-is}
+use Rattle.exchange.proofs.Formed.{as-vector-is}
 use Rattle.session_state.specs.declared.Verdict.the-variants.{Accepted}
 use Rattle.card_state.specs.declared.session.CardPhase.the-variants.{Commit, AnswerAlpha, Reply}
 use Rattle.card_state.specs.Card as CardCalls
@@ -45,7 +45,7 @@ opens o none =
       good = k .good;
       few = omega arith;
       some-rounds = omega arith;
-      secret-is = held-is (o .system) (k .good) (nOf (o .system)) (o .secret) (k .secret-length) (k .secret-elements);
+      secret-is = as-vector-is (o .system) (k .good) (nOf (o .system)) (o .secret) (k .secret-length) (k .secret-elements);
       key-is = k .key;
     }
 

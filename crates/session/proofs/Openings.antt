@@ -15,7 +15,8 @@ use Rattle.field.specs.Vector.{Elements, allBelow}
 use Rattle.field.proofs.Fields.{ring}
 use Rattle.field.proofs.Modulus.{size-of}
 use Rattle.system.specs.System.{qOf, nOf, mOf}
-use Rattle.system.proofs.SystemLayout.{accepted, well-formed, not-refused, at-all-below, all-below-at}
+use Rattle.field.proofs.Elements.{at-all-below, all-below-at}
+use Rattle.system.proofs.SystemLayout.{accepted, well-formed, not-refused}
 use Rattle.scheme.specs.Scheme.{byteOf, schemeOf, isScheme, isRounds, drawnLength, lentLength}
 use Rattle.card_state.specs.Card as CardCalls
 use Rattle.card_state.proofs.Taken.{open-taken, open-due}

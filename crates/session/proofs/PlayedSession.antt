@@ -11,7 +11,7 @@ use Rattle.slices.specs.Slices.{zeros}
 use Rattle.refusal.proofs.Refusals.{kept-accepted}
 use Rattle.field.specs.Vector.{Elements, allBelow}
 use Rattle.system.specs.System.{qOf, nOf, mOf, systemRefusal}
-use Rattle.system.proofs.SystemLayout.{all-below-at, at-all-below}
+use Rattle.field.proofs.Elements.{all-below-at, at-all-below}
 use Rattle.scheme.specs.declared.Scheme.{Scheme}
 use Rattle.scheme.specs.declared.Scheme.the-variants.{ThreePass, FivePass}
 use Rattle.scheme.specs.Scheme.{challenges, commitmentCount, openedCount, hasAlpha}

@@ -9,7 +9,8 @@ use Rattle.field.specs.Ops.{isField, modulus, remainders, ops}
 use Rattle.field.specs.Vector.{vector, asVector, sum, allBelow}
 use Rattle.system.specs.Polynomial.{pairs, polynomial}
 use Rattle.system.specs.System.{width, triangle, quadratic, linear, F, areSizes, isSize, systemLength, systemRefusal}
-use Rattle.system.proofs.SystemLayout.{well-formed, all-below-at}
+use Rattle.field.proofs.Elements.{all-below-at}
+use Rattle.system.proofs.SystemLayout.{well-formed}
 use Rattle.session_state.specs.declared.Verdict.the-variants.{Accepted}
 use Rattle.card_state.specs.Card as CardCalls
 use Rattle.carrier_state.specs.Carrier as CarrierCalls

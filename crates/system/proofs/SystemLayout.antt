@@ -15,7 +15,7 @@ use Rattle.refusal.specs.Refusal.{unless, _orElse_}
 use Rattle.refusal.proofs.Refusals.{first-zero, later-zero, test-holds, unless-most, orElse-most}
 use Rattle.field.specs.Ops.{isField}
 use Rattle.field.specs.Vector.{allBelow}
-pub use Rattle.field.proofs.Elements.{all-below-at, at-all-below}
+use Rattle.field.proofs.Elements.{all-below-at, at-all-below}
 use Rattle.system.specs.System.{qOf, nOf, mOf, width, systemLength, isSize, areSizes, hasSizes, systemRefusal, systemAgainst, WellFormedSystem, triangle}
 
 -- ---- widths

@@ -35,7 +35,7 @@ first-clash-spec =
     Inv-loop
     μ-loop
     (λ c κs. search needs)
-    (λ c. (where-start _ _ refl, omega arith, omega arith))
+    (λ c. (where-start _ _ (omega arith), omega arith, omega arith))
     (λ c κs. search needs)
     (λ c. omega arith)
     (λ c. omega arith)

@@ -1,4 +1,5 @@
--- The callees' answers, put together. Assumes nothing.
+-- The length first, then what is judged. Assumes nothing.
+use Rattle.record_form.proofs.Chains.{ends, goes-on}
 use Rattle.reporting.specs.Report.{reportRefusal}
 use borrow.Author.Needs.{needs}
 use Rattle.reporting.proofs.report_refusal.Statement.{statement}
@@ -10,8 +11,8 @@ report-refusal-spec =
     tie.close
     (tie.spec
     (λ c κs. search needs)
+    (λ c. ends _ _ _ (c .before .unless .ensures) (c .if1 .taken))
     (λ c κs. search needs)
     (λ c κs. search needs)
     (λ c κs. search needs)
-    (λ c κs. search needs)
-    (λ c. simp (c .first .ensures, c .before .judge-refusal .ensures, c .before .before .record-part .ensures, c .before .before .before .system-part .ensures, c .before .before .before .before .unless .ensures)))
+    (λ c. goes-on _ _ _ _ (c .before .before .before .before .unless .ensures) (c .before .before .before .if1 .left) (simp (c .judge-refusal .ensures, c .before .record-part .ensures, c .before .before .system-part .ensures))))
