@@ -25,7 +25,8 @@ ghost use Rattle.audit_lines.specs.AuditLines.{hexLine, clashLines, reje
 // Puts a line of a word and bytes.
 fn hex_line(text: &mut [u8], at: usize, word: &[u8], s: &[u8]) -> usize
     requires { ⌜ at + length (now word) + 2 * length (now s) + 1 ≤ length (now text) ⌝ }
-    ensures { λ r. ⌜ (now (text .exit) ≡ placed (now (text .entry)) «at» (hexLine (now (word .entry)) (now (s .entry)))) × (r ≡ at + length (hexLine (now (word .entry)) (now (s .entry)))) × (r ≡ at + length (now (word .entry)) + 2 * length (now (s .entry)) + 1) ⌝ }
+    ensures { λ r. ⌜ (now (text .exit) ≡ placed (now (text .entry)) «at» (hexLine (now (word .entry)) (now (s .entry))))
+        × (r ≡ at + length (hexLine (now (word .entry)) (now (s .entry)))) × (r ≡ at + length (now (word .entry)) + 2 * length (now (s .entry)) + 1) ⌝ }
 {
     let next = append(text, at, word);
     let next = append_hex(text, next, s);
@@ -35,7 +36,8 @@ fn hex_line(text: &mut [u8], at: usize, word: &[u8], s: &[u8]) -> usize
 // `clash 1`, then a line for each string.
 fn clash_lines(text: &mut [u8], k: u8, first: &[u8], second: &[u8]) -> usize
     requires { ⌜ (length (now text) ≡ 2048) × (length (now first) ≤ longest) × (length (now second) ≤ longest) ⌝ }
-    ensures { λ r. ⌜ (now (text .exit) ≡ placed (now (text .entry)) 0 (clashLines k (now (first .entry)) (now (second .entry)))) × (r ≡ length (clashLines k (now (first .entry)) (now (second .entry)))) × (r ≤ 2048) ⌝ }
+    ensures { λ r. ⌜ (now (text .exit) ≡ placed (now (text .entry)) 0 (clashLines k (now (first .entry)) (now (second .entry))))
+        × (r ≡ length (clashLines k (now (first .entry)) (now (second .entry)))) × (r ≤ 2048) ⌝ }
 {
     let next = append_number(text, 0, b"clash ", k);
     let next = append(text, next, b"\n");
@@ -55,7 +57,8 @@ fn rejected_line(text: &mut [u8], whose: u8, round: u8) -> usize
 // The line of a refusal.
 fn refusal_line(text: &mut [u8], number: u8, whose: u8, round: u8) -> usize
     requires { ⌜ length (now text) ≡ 2048 ⌝ }
-    ensures { λ r. ⌜ (now (text .exit) ≡ placed (now (text .entry)) 0 (refusalLine number whose round)) × (r ≡ length (refusalLine number whose round)) × (r ≤ 2048) ⌝ }
+    ensures { λ r. ⌜ (now (text .exit) ≡ placed (now (text .entry)) 0 (refusalLine number whose round)) × (r ≡ length (refusalLine number whose round))
+        × (r ≤ 2048) ⌝ }
 {
     if number == 8 {
         rejected_line(text, whose, round)
@@ -67,7 +70,8 @@ fn refusal_line(text: &mut [u8], number: u8, whose: u8, round: u8) -> usize
 // The text of what an audit answers, where the system's n is given.
 pub fn audit_text(audited: Audited, n: u8, text: &mut [u8]) -> usize
     requires { ⌜ length (now text) ≡ 2048 ⌝ }
-    ensures { λ r. ⌜ (now (text .exit) ≡ placed (now (text .entry)) 0 (auditText n (outcomeOf audited))) × (r ≡ length (auditText n (outcomeOf audited))) × (r ≤ 2048) ⌝ }
+    ensures { λ r. ⌜ (now (text .exit) ≡ placed (now (text .entry)) 0 (auditText n (outcomeOf audited))) × (r ≡ length (auditText n (outcomeOf audited)))
+        × (r ≤ 2048) ⌝ }
 {
     let finding = audited.finding;
     let secret = audited.secret;
@@ -83,7 +87,8 @@ pub fn audit_text(audited: Audited, n: u8, text: &mut [u8]) -> usize
 // The lines of a clash, each string as long as it says.
 fn both_strings(text: &mut [u8], k: u8, first: Text, second: Text) -> usize
     requires { ⌜ length (now text) ≡ 2048 ⌝ }
-    ensures { λ r. ⌜ (now (text .exit) ≡ placed (now (text .entry)) 0 (clashLines k (content first) (content second))) × (r ≡ length (clashLines k (content first) (content second))) × (r ≤ 2048) ⌝ }
+    ensures { λ r. ⌜ (now (text .exit) ≡ placed (now (text .entry)) 0 (clashLines k (content first) (content second)))
+        × (r ≡ length (clashLines k (content first) (content second))) × (r ≤ 2048) ⌝ }
 {
     let first_length = first.len;
     let first_bytes = first.bytes;
@@ -115,7 +120,10 @@ pub fn three_text<'a>(
     lengths: Lengths,
     text: &mut [u8; 2048],
 ) -> usize
-    ensures { λ r. ⌜ (now (text .exit) ≡ placed (now (text .entry)) 0 (threeText (take (lengths .system) (now (system .entry))) (take (lengths .a) (now (a .entry))) (take (lengths .b) (now (b .entry))) (take (lengths .c) (now (c .entry))))) × (r ≡ length (threeText (take (lengths .system) (now (system .entry))) (take (lengths .a) (now (a .entry))) (take (lengths .b) (now (b .entry))) (take (lengths .c) (now (c .entry))))) ⌝ }
+    ensures { λ r. ⌜ (now (text .exit) ≡ placed (now (text .entry)) 0
+        (threeText (take (lengths .system) (now (system .entry))) (take (lengths .a) (now (a .entry))) (take (lengths .b) (now (b .entry)))
+        (take (lengths .c) (now (c .entry))))) × (r ≡ length (threeText (take (lengths .system) (now (system .entry))) (take (lengths .a) (now (a .entry)))
+        (take (lengths .b) (now (b .entry))) (take (lengths .c) (now (c .entry))))) ⌝ }
 {
     let system = part(system, 0, lengths.system);
     let a = part(a, 0, lengths.a);
@@ -135,7 +143,11 @@ pub fn five_text<'a>(
     d_length: usize,
     text: &mut [u8; 2048],
 ) -> usize
-    ensures { λ r. ⌜ (now (text .exit) ≡ placed (now (text .entry)) 0 (fiveText (take (lengths .system) (now (system .entry))) (take (lengths .a) (now (a .entry))) (take (lengths .b) (now (b .entry))) (take (lengths .c) (now (c .entry))) (take «d_length» (now (d .entry))))) × (r ≡ length (fiveText (take (lengths .system) (now (system .entry))) (take (lengths .a) (now (a .entry))) (take (lengths .b) (now (b .entry))) (take (lengths .c) (now (c .entry))) (take «d_length» (now (d .entry))))) ⌝ }
+    ensures { λ r. ⌜ (now (text .exit) ≡ placed (now (text .entry)) 0
+        (fiveText (take (lengths .system) (now (system .entry))) (take (lengths .a) (now (a .entry))) (take (lengths .b) (now (b .entry)))
+        (take (lengths .c) (now (c .entry))) (take «d_length» (now (d .entry)))))
+        × (r ≡ length (fiveText (take (lengths .system) (now (system .entry))) (take (lengths .a) (now (a .entry))) (take (lengths .b) (now (b .entry)))
+        (take (lengths .c) (now (c .entry))) (take «d_length» (now (d .entry))))) ⌝ }
 {
     let system = part(system, 0, lengths.system);
     let a = part(a, 0, lengths.a);

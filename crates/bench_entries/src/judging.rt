@@ -30,7 +30,8 @@ fn accepted_rounds<'a>(system: &'a [u8], bytes: &'a [u8]) -> u8
 #[no_mangle]
 pub extern "C" fn bench_judge<'a>(system: &'a [u8], bytes: &'a [u8], accepted: &mut u8) -> u8
     ensures { λ r. ⌜ (r ≡ judgeRefusal (now (system .entry)) (now (bytes .entry)))
-        × (now (accepted .exit) ≡ kept r (now (accepted .entry)) (acceptedCount (now (system .entry)) (now (bytes .entry)) (headerIn (now (bytes .entry)) .rounds))) ⌝ }
+        × (now (accepted .exit) ≡ kept r (now (accepted .entry))
+        (acceptedCount (now (system .entry)) (now (bytes .entry)) (headerIn (now (bytes .entry)) .rounds))) ⌝ }
 {
     let refused = judge_refusal(system, bytes);
     if refused != 0 {

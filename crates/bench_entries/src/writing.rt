@@ -18,8 +18,10 @@ pub extern "C" fn bench_write<'a>(
     exchanges: &'a [u8],
     out: &mut [u8],
 ) -> u8
-    ensures { λ r. ⌜ (r ≡ writeRefusal scheme (fieldsOf (headerOf scheme q n m rounds) (now (key .entry)) (now (commitments .entry)) (now (exchanges .entry))) (length (now (out .entry))))
-        × (now (out .exit) ≡ kept r (now (out .entry)) (written (fieldsOf (headerOf scheme q n m rounds) (now (key .entry)) (now (commitments .entry)) (now (exchanges .entry))))) ⌝ }
+    ensures { λ r. ⌜ (r ≡ writeRefusal scheme (fieldsOf (headerOf scheme q n m rounds) (now (key .entry)) (now (commitments .entry))
+        (now (exchanges .entry))) (length (now (out .entry))))
+        × (now (out .exit) ≡ kept r (now (out .entry)) (written
+        (fieldsOf (headerOf scheme q n m rounds) (now (key .entry)) (now (commitments .entry)) (now (exchanges .entry))))) ⌝ }
 {
     record_writer::write(scheme, q, n, m, rounds, key, commitments, exchanges, out)
 }

@@ -57,7 +57,8 @@ fn audit_refusal(system: &[u8], f: Finding, room: usize) -> u32
 
 // Writes what an audit found, and answers 0; or answers the refusal, and leaves the output.
 pub fn answer(system: &[u8], audited: Audited, finding: &mut [u8]) -> u32
-    ensures { λ r. ⌜ (r ≡ auditRefusal (now (system .entry)) (audited .finding) (length (now (finding .entry)))) × (now (finding .exit) ≡ kept r (now (finding .entry)) (findingBytes audited)) ⌝ }
+    ensures { λ r. ⌜ (r ≡ auditRefusal (now (system .entry)) (audited .finding) (length (now (finding .entry))))
+        × (now (finding .exit) ≡ kept r (now (finding .entry)) (findingBytes audited)) ⌝ }
 {
     let found = audited.finding;
     let refused = audit_refusal(system, found, finding.len());

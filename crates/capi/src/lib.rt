@@ -80,8 +80,10 @@ pub extern "C" fn canvasfox_simulate<'a>(
     commitments: &mut [u8],
     reply: &mut [u8],
 ) -> u8
-    ensures { λ r. ⌜ (r ≡ simulateRefusal (now (system .entry)) (now (v .entry)) unanswered challenge (now (lent .entry)) (length (now (commitments .entry))) (length (now (reply .entry))))
-        × (now (commitments .exit) ≡ kept r (now (commitments .entry)) (simulatedCommitments (now (system .entry)) (now (v .entry)) unanswered (now (lent .entry))))
+    ensures { λ r. ⌜ (r ≡ simulateRefusal (now (system .entry)) (now (v .entry)) unanswered challenge (now (lent .entry))
+        (length (now (commitments .entry))) (length (now (reply .entry))))
+        × (now (commitments .exit) ≡ kept r (now (commitments .entry))
+        (simulatedCommitments (now (system .entry)) (now (v .entry)) unanswered (now (lent .entry))))
         × (now (reply .exit) ≡ kept r (now (reply .entry)) (simulatedReply (now (system .entry)) (now (v .entry)) unanswered challenge (now (lent .entry)))) ⌝ }
 {
     simulator::simulate(system, v, unanswered, challenge, lent, commitments, reply)
@@ -104,7 +106,8 @@ pub extern "C" fn canvasfox_record_read(bytes: &[u8], fields: &mut [u8]) -> u8
 // The text for a system and a record, to the front of 8,192 bytes; its length.
 #[no_mangle]
 pub extern "C" fn canvasfox_report(input: &[u8], text: &mut [u8]) -> usize
-    ensures { λ r. ⌜ (r ≡ reportLength (now (input .entry)) (length (now (text .entry)))) × (now (text .exit) ≡ reportOut (now (input .entry)) (now (text .entry)))
+    ensures { λ r. ⌜ (r ≡ reportLength (now (input .entry)) (length (now (text .entry))))
+        × (now (text .exit) ≡ reportOut (now (input .entry)) (now (text .entry)))
         × (r ≤ length (now (text .entry))) ⌝ }
 {
     reporting::report(input, text)
@@ -119,8 +122,10 @@ pub extern "C" fn canvasfox_audit_three<'a>(
     c: &'a [u8],
     finding: &mut [u8],
 ) -> u32
-    ensures { λ r. ⌜ (r ≡ auditRefusal (now (system .entry)) (answerOf (auditThree (now (system .entry)) (now (a .entry)) (now (b .entry)) (now (c .entry))) .finding) (length (now (finding .entry))))
-        × (now (finding .exit) ≡ kept r (now (finding .entry)) (findingBytes (answerOf (auditThree (now (system .entry)) (now (a .entry)) (now (b .entry)) (now (c .entry)))))) ⌝ }
+    ensures { λ r. ⌜ (r ≡ auditRefusal (now (system .entry)) (answerOf
+        (auditThree (now (system .entry)) (now (a .entry)) (now (b .entry)) (now (c .entry))) .finding) (length (now (finding .entry))))
+        × (now (finding .exit) ≡ kept r (now (finding .entry))
+        (findingBytes (answerOf (auditThree (now (system .entry)) (now (a .entry)) (now (b .entry)) (now (c .entry)))))) ⌝ }
 {
     answer(system, audit_three(system, a, b, c), finding)
 }
@@ -135,8 +140,10 @@ pub extern "C" fn canvasfox_audit_five<'a>(
     d: &'a [u8],
     finding: &mut [u8],
 ) -> u32
-    ensures { λ r. ⌜ (r ≡ auditRefusal (now (system .entry)) (answerOf (auditFive (now (system .entry)) (now (a .entry)) (now (b .entry)) (now (c .entry)) (now (d .entry))) .finding) (length (now (finding .entry))))
-        × (now (finding .exit) ≡ kept r (now (finding .entry)) (findingBytes (answerOf (auditFive (now (system .entry)) (now (a .entry)) (now (b .entry)) (now (c .entry)) (now (d .entry)))))) ⌝ }
+    ensures { λ r. ⌜ (r ≡ auditRefusal (now (system .entry)) (answerOf
+        (auditFive (now (system .entry)) (now (a .entry)) (now (b .entry)) (now (c .entry)) (now (d .entry))) .finding) (length (now (finding .entry))))
+        × (now (finding .exit) ≡ kept r (now (finding .entry))
+        (findingBytes (answerOf (auditFive (now (system .entry)) (now (a .entry)) (now (b .entry)) (now (c .entry)) (now (d .entry)))))) ⌝ }
 {
     answer(system, audit_five(system, a, b, c, d), finding)
 }

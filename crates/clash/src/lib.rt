@@ -11,7 +11,8 @@ use scheme::commitment_count;
 use transcript::domain_in;
 ghost use mathlib.Core.Path.{_≡_};
 ghost use Rattle.system.specs.System.{systemRefusal};
-ghost use Rattle.clash.specs.Clash.{lowerChallenge, higherChallenge, openerFive, leftRecord, rightRecord, leftOpening, rightOpening, PairOf, samePair, firstClash};
+ghost use Rattle.clash.specs.Clash.{lowerChallenge, higherChallenge, openerFive, leftRecord, rightRecord};
+ghost use Rattle.clash.specs.Clash.{leftOpening, rightOpening, PairOf, samePair, firstClash};
 
 // Three passes: the lower of the two challenges whose replies open commitment k.
 fn lower_challenge(k: u8) -> u8
@@ -89,7 +90,8 @@ pub fn opened_pair<'a>(
     k: u8,
 ) -> Pair
     requires { ⌜ systemRefusal (now system) ≡ 0 ⌝ }
-    ensures { λ p. ⌜ PairOf p (leftOpening scheme (now (system .entry)) (now (a .entry)) (now (b .entry)) (now (c .entry)) r k) (rightOpening scheme (now (system .entry)) (now (a .entry)) (now (b .entry)) (now (c .entry)) (now (d .entry)) r k) ⌝ }
+    ensures { λ p. ⌜ PairOf p (leftOpening scheme (now (system .entry)) (now (a .entry)) (now (b .entry)) (now (c .entry)) r k)
+        (rightOpening scheme (now (system .entry)) (now (a .entry)) (now (b .entry)) (now (c .entry)) (now (d .entry)) r k) ⌝ }
 {
     let left = opening(system, left_record(scheme, a, b, c, r, k), r, k);
     let right = opening(system, right_record(scheme, a, b, c, d, r, k), r, k);

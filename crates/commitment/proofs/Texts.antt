@@ -11,7 +11,7 @@ use Rattle.slices.specs.Slices.{_!_, tabulate}
 use Rattle.slices.proofs.Tabulate.{length-tabulate, tabulate-at, tabulate-of}
 use Rattle.commitment.specs.declared.Text.{Text}
 use Rattle.commitment.specs.Commitment.{longest}
-use Rattle.commitment.specs.Texts.{zeroBeyond, text, content, Room, TextOf}
+use Rattle.commitment.specs.Texts.{zeroBeyond, text, content, TextOf}
 
 pub length-zero-beyond : (l : List ℕ) → length (zeroBeyond l) ≡ longest
 unfolding zeroBeyond

@@ -63,7 +63,8 @@ fn fourth_audited(scheme: Scheme, d: &[u8]) -> u8
 
 // The refusal of each record in turn, 0 for none; it ends at the first.
 fn readings_refusal<'a>(scheme: Scheme, a: &'a [u8], b: &'a [u8], c: &'a [u8], d: &'a [u8]) -> u8
-    ensures { λ r. ⌜ r ≡ (auditedRefusal scheme (now (a .entry)) orElse auditedRefusal scheme (now (b .entry)) orElse auditedRefusal scheme (now (c .entry)) orElse ofFourth scheme (auditedRefusal scheme (now (d .entry)))) ⌝ }
+    ensures { λ r. ⌜ r ≡ (auditedRefusal scheme (now (a .entry)) orElse auditedRefusal scheme (now (b .entry)) orElse auditedRefusal scheme (now (c .entry))
+        orElse ofFourth scheme (auditedRefusal scheme (now (d .entry)))) ⌝ }
 {
     let of_a = audited_refusal(scheme, a);
     if of_a != 0 {
@@ -99,7 +100,8 @@ fn differing_refusal<'a>(
     c: &'a [u8],
     d: &'a [u8],
 ) -> u8
-    ensures { λ r. ⌜ r ≡ (fitRefusal (now (system .entry)) (now (a .entry)) orElse differenceRefusal (now (a .entry)) (now (b .entry)) orElse differenceRefusal (now (a .entry)) (now (c .entry)) orElse ofFourth scheme (differenceRefusal (now (a .entry)) (now (d .entry)))) ⌝ }
+    ensures { λ r. ⌜ r ≡ (fitRefusal (now (system .entry)) (now (a .entry)) orElse differenceRefusal (now (a .entry)) (now (b .entry)) orElse
+        differenceRefusal (now (a .entry)) (now (c .entry)) orElse ofFourth scheme (differenceRefusal (now (a .entry)) (now (d .entry)))) ⌝ }
 {
     let of_sizes = fit_refusal(system, a);
     if of_sizes != 0 {

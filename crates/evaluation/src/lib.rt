@@ -30,7 +30,8 @@ fn evaluate_refusal<'a>(system: &'a [u8], x: &'a [u8], out_len: usize) -> u8
 
 // Writes F(x) to out. x has n bytes and out m.
 pub fn evaluate<'a>(system: &'a [u8], x: &'a [u8], out: &mut [u8]) -> u8
-    ensures { λ r. ⌜ (r ≡ evaluateRefusal (now (system .entry)) (now (x .entry)) (length (now (out .entry)))) × (now (out .exit) ≡ kept r (now (out .entry)) (take (mOf (now (system .entry))) (F (now (system .entry)) (now (x .entry))))) ⌝ }
+    ensures { λ r. ⌜ (r ≡ evaluateRefusal (now (system .entry)) (now (x .entry)) (length (now (out .entry))))
+        × (now (out .exit) ≡ kept r (now (out .entry)) (take (mOf (now (system .entry))) (F (now (system .entry)) (now (x .entry))))) ⌝ }
 {
     let refused = evaluate_refusal(system, x, out.len());
     if refused != 0 {
@@ -58,7 +59,8 @@ fn polar_refusal<'a>(system: &'a [u8], x: &'a [u8], y: &'a [u8], out_len: usize)
 
 // Writes G(x, y) to out. x and y have n bytes and out m.
 pub fn polar<'a>(system: &'a [u8], x: &'a [u8], y: &'a [u8], out: &mut [u8]) -> u8
-    ensures { λ r. ⌜ (r ≡ polarRefusal (now (system .entry)) (now (x .entry)) (now (y .entry)) (length (now (out .entry)))) × (now (out .exit) ≡ kept r (now (out .entry)) (take (mOf (now (system .entry))) (G (now (system .entry)) (now (x .entry)) (now (y .entry))))) ⌝ }
+    ensures { λ r. ⌜ (r ≡ polarRefusal (now (system .entry)) (now (x .entry)) (now (y .entry)) (length (now (out .entry))))
+        × (now (out .exit) ≡ kept r (now (out .entry)) (take (mOf (now (system .entry))) (G (now (system .entry)) (now (x .entry)) (now (y .entry))))) ⌝ }
 {
     let refused = polar_refusal(system, x, y, out.len());
     if refused != 0 {

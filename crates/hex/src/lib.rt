@@ -28,7 +28,8 @@ fn append_byte(text: &mut [u8], at: usize, byte: u8) -> usize
 // Puts two digits for each byte.
 pub fn append_hex(text: &mut [u8], at: usize, s: &[u8]) -> usize
     requires { ⌜ at + 2 * length (now s) ≤ length (now text) ⌝ }
-    ensures { λ r. ⌜ (now (text .exit) ≡ placed (now (text .entry)) «at» (hex (now (s .entry)))) × (r ≡ at + length (hex (now (s .entry)))) × (r ≡ at + 2 * length (now (s .entry))) ⌝ }
+    ensures { λ r. ⌜ (now (text .exit) ≡ placed (now (text .entry)) «at» (hex (now (s .entry)))) × (r ≡ at + length (hex (now (s .entry))))
+        × (r ≡ at + 2 * length (now (s .entry))) ⌝ }
 {
     let mut next = at;
     let mut i = 0;

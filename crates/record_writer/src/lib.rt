@@ -96,8 +96,10 @@ pub fn write<'a>(
     exchanges: &'a [u8],
     out: &mut [u8],
 ) -> u8
-    ensures { λ r. ⌜ (r ≡ writeRefusal scheme (fieldsOf (headerOf scheme q n m rounds) (now (key .entry)) (now (commitments .entry)) (now (exchanges .entry))) (length (now (out .entry))))
-        × (now (out .exit) ≡ kept r (now (out .entry)) (written (fieldsOf (headerOf scheme q n m rounds) (now (key .entry)) (now (commitments .entry)) (now (exchanges .entry))))) ⌝ }
+    ensures { λ r. ⌜ (r ≡ writeRefusal scheme (fieldsOf (headerOf scheme q n m rounds) (now (key .entry)) (now (commitments .entry))
+        (now (exchanges .entry))) (length (now (out .entry))))
+        × (now (out .exit) ≡ kept r (now (out .entry)) (written
+        (fieldsOf (headerOf scheme q n m rounds) (now (key .entry)) (now (commitments .entry)) (now (exchanges .entry))))) ⌝ }
 {
     let header = header_from(scheme, q, n, m, rounds);
     let refused = write_refusal(scheme, header, key, commitments, exchanges, out.len());

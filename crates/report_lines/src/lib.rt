@@ -15,7 +15,8 @@ ghost use Rattle.report_lines.specs.ReportLines.{verdictWord, roundLine,
 // Puts a word, and `accept` or `reject`.
 fn append_verdict(text: &mut [u8], at: usize, word: &[u8], accepted: bool) -> usize
     requires { ⌜ at + length (now word) + 6 ≤ length (now text) ⌝ }
-    ensures { λ r. ⌜ (now (text .exit) ≡ placed (now (text .entry)) «at» (now (word .entry) ++ verdictWord accepted)) × (r ≡ at + length (now (word .entry) ++ verdictWord accepted)) × (r ≤ at + length (now (word .entry)) + 6) ⌝ }
+    ensures { λ r. ⌜ (now (text .exit) ≡ placed (now (text .entry)) «at» (now (word .entry) ++ verdictWord accepted))
+        × (r ≡ at + length (now (word .entry) ++ verdictWord accepted)) × (r ≤ at + length (now (word .entry)) + 6) ⌝ }
 {
     let next = append(text, at, word);
     if accepted {
@@ -28,7 +29,8 @@ fn append_verdict(text: &mut [u8], at: usize, word: &[u8], accepted: bool) -> us
 // `round 1 challenge 2 accept`
 pub fn round_line(text: &mut [u8], at: usize, round: u8, challenge: u8, accepted: bool) -> usize
     requires { ⌜ at + 32 ≤ length (now text) ⌝ }
-    ensures { λ r. ⌜ (now (text .exit) ≡ placed (now (text .entry)) «at» (roundLine round challenge accepted)) × (r ≡ at + length (roundLine round challenge accepted)) × (r ≤ at + 32) ⌝ }
+    ensures { λ r. ⌜ (now (text .exit) ≡ placed (now (text .entry)) «at» (roundLine round challenge accepted))
+        × (r ≡ at + length (roundLine round challenge accepted)) × (r ≤ at + 32) ⌝ }
 {
     let next = append_numbers(text, at, b"round ", round, b" challenge ", challenge);
     let next = append_verdict(text, next, b" ", accepted);
@@ -38,7 +40,8 @@ pub fn round_line(text: &mut [u8], at: usize, round: u8, challenge: u8, accepted
 // `verdict accept 1 of 1`
 pub fn verdict_line(text: &mut [u8], at: usize, accepted: u8, rounds: u8) -> usize
     requires { ⌜ at + 32 ≤ length (now text) ⌝ }
-    ensures { λ r. ⌜ (now (text .exit) ≡ placed (now (text .entry)) «at» (verdictLine accepted rounds)) × (r ≡ at + length (verdictLine accepted rounds)) × (r ≤ at + 32) ⌝ }
+    ensures { λ r. ⌜ (now (text .exit) ≡ placed (now (text .entry)) «at» (verdictLine accepted rounds)) × (r ≡ at + length (verdictLine accepted rounds))
+        × (r ≤ at + 32) ⌝ }
 {
     let next = append_verdict(text, at, b"verdict ", accepted == rounds);
     let next = append_numbers(text, next, b" ", accepted, b" of ", rounds);

@@ -83,7 +83,8 @@ fn counted(accepted: u8, round_accepted: bool) -> u8
 // Judges every round: a line for each, then the verdict.
 fn judged<'a>(system: &'a [u8], bytes: &'a [u8], text: &mut [u8]) -> usize
     requires { ⌜ (systemRefusal (now system) ≡ 0) × (length (now text) ≡ 8192) ⌝ }
-    ensures { λ r. ⌜ (now (text .exit) ≡ placed (now (text .entry)) 0 (judgedText (now (system .entry)) (now (bytes .entry)))) × (r ≡ length (judgedText (now (system .entry)) (now (bytes .entry)))) × (r ≤ 8192) ⌝ }
+    ensures { λ r. ⌜ (now (text .exit) ≡ placed (now (text .entry)) 0 (judgedText (now (system .entry)) (now (bytes .entry))))
+        × (r ≡ length (judgedText (now (system .entry)) (now (bytes .entry)))) × (r ≤ 8192) ⌝ }
 {
     let rounds = header_of(bytes).rounds;
     let mut at = 0;
@@ -102,7 +103,8 @@ fn judged<'a>(system: &'a [u8], bytes: &'a [u8], text: &mut [u8]) -> usize
 
 // Writes the report on an input, and answers its length.
 pub fn report(input: &[u8], text: &mut [u8]) -> usize
-    ensures { λ r. ⌜ (r ≡ reportLength (now (input .entry)) (length (now (text .entry)))) × (now (text .exit) ≡ reportOut (now (input .entry)) (now (text .entry))) × (r ≤ length (now (text .entry))) ⌝ }
+    ensures { λ r. ⌜ (r ≡ reportLength (now (input .entry)) (length (now (text .entry))))
+        × (now (text .exit) ≡ reportOut (now (input .entry)) (now (text .entry))) × (r ≤ length (now (text .entry))) ⌝ }
 {
     if text.len() != 8192 {
         return 0;

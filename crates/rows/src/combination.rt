@@ -29,7 +29,8 @@ fn scale(q: u8, a: u8, x: &[u8], out: &mut [u8])
 // Fills out with a·x + b·y, place by place.
 fn blend_rows<'a>(q: u8, a: u8, x: &'a [u8], b: u8, y: &'a [u8], out: &mut [u8])
     requires { ⌜ (length (now out) ≤ length (now x)) × (length (now out) ≤ length (now y)) ⌝ }
-    ensures { λ _. ⌜ now (out .exit) ≡ tabulate (length (now (out .entry))) (λ i. (ops q) .add ((ops q) .mul a (now (x .entry) ! i)) ((ops q) .mul b (now (y .entry) ! i))) ⌝ }
+    ensures { λ _. ⌜ now (out .exit) ≡ tabulate (length (now (out .entry)))
+        (λ i. (ops q) .add ((ops q) .mul a (now (x .entry) ! i)) ((ops q) .mul b (now (y .entry) ! i))) ⌝ }
 {
     let mut place = 0;
     while place < out.len() {
@@ -41,7 +42,8 @@ fn blend_rows<'a>(q: u8, a: u8, x: &'a [u8], b: u8, y: &'a [u8], out: &mut [u8])
 // The same, with one product a place where b is 0.
 fn sparse_rows<'a>(q: u8, a: u8, x: &'a [u8], b: u8, y: &'a [u8], out: &mut [u8])
     requires { ⌜ (length (now out) ≤ length (now x)) × (length (now out) ≤ length (now y)) ⌝ }
-    ensures { λ _. ⌜ now (out .exit) ≡ tabulate (length (now (out .entry))) (λ i. (ops q) .add ((ops q) .mul a (now (x .entry) ! i)) ((ops q) .mul b (now (y .entry) ! i))) ⌝ }
+    ensures { λ _. ⌜ now (out .exit) ≡ tabulate (length (now (out .entry)))
+        (λ i. (ops q) .add ((ops q) .mul a (now (x .entry) ! i)) ((ops q) .mul b (now (y .entry) ! i))) ⌝ }
 {
     if b == 0 {
         scale(q, a, x, out);
@@ -54,7 +56,8 @@ fn sparse_rows<'a>(q: u8, a: u8, x: &'a [u8], b: u8, y: &'a [u8], out: &mut [u8]
 // taken does not tell what b is, which may be secret.
 pub fn combine<'a>(q: u8, a: u8, x: &'a [u8], b: u8, y: &'a [u8], out: &mut [u8], sparse: bool)
     requires { ⌜ (length (now out) ≤ length (now x)) × (length (now out) ≤ length (now y)) ⌝ }
-    ensures { λ _. ⌜ now (out .exit) ≡ tabulate (length (now (out .entry))) (λ i. (ops q) .add ((ops q) .mul a (now (x .entry) ! i)) ((ops q) .mul b (now (y .entry) ! i))) ⌝ }
+    ensures { λ _. ⌜ now (out .exit) ≡ tabulate (length (now (out .entry)))
+        (λ i. (ops q) .add ((ops q) .mul a (now (x .entry) ! i)) ((ops q) .mul b (now (y .entry) ! i))) ⌝ }
 {
     if sparse {
         sparse_rows(q, a, x, b, y, out);

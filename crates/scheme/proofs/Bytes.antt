@@ -1,5 +1,4 @@
 -- A scheme and its byte. Assumes nothing.
-use Prim.Native.Nat.{ℕ}
 use mathlib.Core.Path.{_≡_, refl, sym, ap, _∙_}
 use mathlib.Core.Bool.{true}
 use Rattle.scheme.specs.declared.Scheme.{Scheme}

@@ -45,7 +45,8 @@ fn append_decimal(text: &mut [u8], at: usize, k: u8) -> usize
 // Puts a word and a number.
 pub fn append_number(text: &mut [u8], at: usize, word: &[u8], k: u8) -> usize
     requires { ⌜ at + length (now word) + 3 ≤ length (now text) ⌝ }
-    ensures { λ r. ⌜ (now (text .exit) ≡ placed (now (text .entry)) «at» (numbered (now (word .entry)) k)) × (r ≡ at + length (numbered (now (word .entry)) k)) × (r ≤ at + length (now (word .entry)) + 3) ⌝ }
+    ensures { λ r. ⌜ (now (text .exit) ≡ placed (now (text .entry)) «at» (numbered (now (word .entry)) k))
+        × (r ≡ at + length (numbered (now (word .entry)) k)) × (r ≤ at + length (now (word .entry)) + 3) ⌝ }
 {
     let next = append(text, at, word);
     append_decimal(text, next, k)
@@ -61,7 +62,9 @@ pub fn append_numbers(
     j: u8,
 ) -> usize
     requires { ⌜ at + length (now first) + length (now second) + 6 ≤ length (now text) ⌝ }
-    ensures { λ r. ⌜ (now (text .exit) ≡ placed (now (text .entry)) «at» (numbered (now (first .entry)) k ++ numbered (now (second .entry)) j)) × (r ≡ at + length (numbered (now (first .entry)) k ++ numbered (now (second .entry)) j)) × (r ≤ at + length (now (first .entry)) + length (now (second .entry)) + 6) ⌝ }
+    ensures { λ r. ⌜ (now (text .exit) ≡ placed (now (text .entry)) «at» (numbered (now (first .entry)) k ++ numbered (now (second .entry)) j))
+        × (r ≡ at + length (numbered (now (first .entry)) k ++ numbered (now (second .entry)) j))
+        × (r ≤ at + length (now (first .entry)) + length (now (second .entry)) + 6) ⌝ }
 {
     let next = append_number(text, at, first, k);
     append_number(text, next, second, j)

@@ -23,7 +23,8 @@ use system::check;
 use system::has_sizes;
 ghost use mathlib.Core.Path.{_≡_};
 ghost use Rattle.system.specs.System.{systemRefusal};
-ghost use Rattle.transcript.specs.Transcript.{fitRefusal, judgeRefusal, domainIn, keyVector, roundCommitments, roundExchange, roundTurn, roundChallenge, roundReply, acceptedRound};
+ghost use Rattle.transcript.specs.Transcript.{fitRefusal, judgeRefusal, domainIn, keyVector, roundCommitments};
+ghost use Rattle.transcript.specs.Transcript.{roundExchange, roundTurn, roundChallenge, roundReply, acceptedRound};
 
 // 7 where the system has not the q, n and m of a record.
 pub fn fit_refusal<'a>(system: &'a [u8], bytes: &'a [u8]) -> u8
