@@ -23,7 +23,7 @@ use Rattle.card_state.specs.declared.session.CardPhase.{CardPhase}
 use Rattle.card_state.specs.declared.session.CardPhase.the-variants.{AnswerAlpha, Reply}
 use Rattle.card_state.specs.declared.session.Card.{Card}
 use Rattle.card_state.specs.Card as CardCalls
-use Rattle.card_state.specs.Card.{behindCommit, committedCard, cardWith, openedCard, answeredCard, heldLent, commitmentsOf, sentCommitments, sentMiddle, sentReply}
+use Rattle.card_state.specs.Card.{behindCommit, committedCard, cardWith, openedCard, answeredCard, heldLent, formedCommitments, sentCommitments, sentMiddle, sentReply}
 use Rattle.carrier_state.specs.declared.session.CarrierPhase.{CarrierPhase}
 use Rattle.carrier_state.specs.declared.session.CarrierPhase.the-variants.{TakeCommitments, SetAlpha, SetChallenge, TakeReply}
 use Rattle.carrier_state.specs.declared.session.Carrier.{Carrier}
@@ -54,8 +54,8 @@ went w c none = kept-accepted (refusal w c) w (effect w c) none
 -- ---- what the card sends has its lengths and elements
 
 commitments-length : (scheme : Scheme) (d : Domain) (b : List ℕ) → systemRefusal b ≡ 0 → (s lent : List ℕ) →
-    length (commitmentsOf scheme d b s lent) ≡ commitmentsLength scheme
-unfolding commitmentsOf commitmentsLength commitmentCount
+    length (formedCommitments scheme d b s lent) ≡ commitmentsLength scheme
+unfolding formedCommitments commitmentsLength commitmentCount
 commitments-length ThreePass d b good s lent = three-commitments-long b good d s lent
 commitments-length FivePass d b good s lent = five-commitments-long b good d s lent
 
