@@ -10,7 +10,7 @@ use Rattle.exchange.specs.Messages.{lentIn, threeCommitments, fiveCommitments}
 use Rattle.exchange.specs.Card.{threeVectors, threeCommitted, fiveCommitted}
 use Rattle.card_state.specs.declared.session.CardPhase.the-variants.{AnswerAlpha, Reply}
 use Rattle.card_state.specs.declared.session.Card.{Card}
-use Rattle.card_state.specs.Card.{cardDomain, cardWith, behindCommit, keptE1, committedCard, commitmentsOf, sentCommitments}
+use Rattle.card_state.specs.Card.{cardDomain, cardWith, behindCommit, keptE1, committedCard, formedCommitments, sentCommitments}
 
 pub committed-three : (card : Card) (b lent : List ℕ) → card .scheme ≡ ThreePass →
     committedCard card b lent ≡ cardWith card Reply (card .round) (lentIn (nOf b) (mOf b) lent) (threeVectors b (card .s) lent .e1)
@@ -24,10 +24,10 @@ committed-five card b lent five = simp five
 
 pub sent-three : (card : Card) (b lent : List ℕ) → card .scheme ≡ ThreePass →
     sentCommitments card b lent ≡ threeCommitments (threeCommitted (cardDomain card) b (card .s) lent)
-unfolding sentCommitments commitmentsOf
+unfolding sentCommitments formedCommitments
 sent-three card b lent three = simp three
 
 pub sent-five : (card : Card) (b lent : List ℕ) → card .scheme ≡ FivePass →
     sentCommitments card b lent ≡ fiveCommitments (fiveCommitted (cardDomain card) b (card .s) lent)
-unfolding sentCommitments commitmentsOf
+unfolding sentCommitments formedCommitments
 sent-five card b lent five = simp five

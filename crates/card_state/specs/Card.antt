@@ -46,7 +46,7 @@ unfoldable pub cardDomain : Card → Domain
 cardDomain card = record { scheme = card .scheme }
 
 -- "After round N the card's session is closed and every number in it is zero."; "a refused opening gives a closed session of zeros, its verdict \"none\"".
--- A scheme is no number: the first one stands there, which is stored as 0
+-- A scheme is no number: the first one stands there, and no call's answer hangs on it
 unfoldable pub closedCard : Card
 closedCard =
     record {
@@ -146,13 +146,13 @@ committedCard card b lent =
     cardWith card (behindCommit (card .scheme)) (card .round) (lentIn (nOf b) (mOf b) lent) (keptE1 (card .scheme) b (card .s) lent)
 
 -- the commitments of a round, from the secret and what is lent
-unfoldable pub commitmentsOf : Scheme → Domain → List ℕ → List ℕ → List ℕ → List ℕ
-commitmentsOf ThreePass d b s lent = threeCommitments (threeCommitted d b s lent)
-commitmentsOf FivePass d b s lent = fiveCommitments (fiveCommitted d b s lent)
+unfoldable pub formedCommitments : Scheme → Domain → List ℕ → List ℕ → List ℕ → List ℕ
+formedCommitments ThreePass d b s lent = threeCommitments (threeCommitted d b s lent)
+formedCommitments FivePass d b s lent = fiveCommitments (fiveCommitted d b s lent)
 
 -- those that are sent
 unfoldable pub sentCommitments : Card → List ℕ → List ℕ → List ℕ
-sentCommitments card b lent = commitmentsOf (card .scheme) (cardDomain card) b (card .s) lent
+sentCommitments card b lent = formedCommitments (card .scheme) (cardDomain card) b (card .s) lent
 
 -- ---- reply to α (system, α, out)
 
@@ -208,10 +208,10 @@ heldVectors card =
     }
 
 -- the reply of a round
-unfoldable pub replyOf : Scheme → Card → ℕ → List ℕ
-replyOf ThreePass card challenge = replyThreeBytes (card .n) (card .m) (replyThree (heldVectors card) (card .rhos) challenge)
-replyOf FivePass card challenge = replyFiveBytes (card .n) (replyFive (card .q) (card .n) (card .s) (card .r0) (card .rhos) challenge)
+unfoldable pub formedReply : Scheme → Card → ℕ → List ℕ
+formedReply ThreePass card challenge = replyThreeBytes (card .n) (card .m) (replyThree (heldVectors card) (card .rhos) challenge)
+formedReply FivePass card challenge = replyFiveBytes (card .n) (replyFive (card .q) (card .n) (card .s) (card .r0) (card .rhos) challenge)
 
 -- the one that is sent
 unfoldable pub sentReply : Card → ℕ → List ℕ
-sentReply card challenge = replyOf (card .scheme) card challenge
+sentReply card challenge = formedReply (card .scheme) card challenge

@@ -13,6 +13,7 @@ use carrier_state::commitments_refusal;
 use carrier_state::held_commitments;
 use carrier_state::held_turn;
 use carrier_state::middle_refusal;
+use carrier_state::no_turn;
 use carrier_state::reply_refusal;
 use exchange::judge;
 use scheme::has_alpha;
@@ -37,11 +38,12 @@ fn with_commitments(c: Carrier, commitments: &[u8]) -> Carrier
     ensures { λ r. ⌜ r ≡ withCommitments c (now (commitments .entry)) ⌝ }
 {
     let held = held_commitments(commitments);
+    let turn = no_turn();
     let scheme = c.scheme;
     if has_alpha(scheme) {
-        carrier_with(c, CarrierPhase::SetAlpha, c.accepted, held, [0; 193], 0)
+        carrier_with(c, CarrierPhase::SetAlpha, c.accepted, held, turn, 0)
     } else {
-        carrier_with(c, CarrierPhase::SetChallenge, c.accepted, held, [0; 193], 0)
+        carrier_with(c, CarrierPhase::SetChallenge, c.accepted, held, turn, 0)
     }
 }
 
@@ -93,7 +95,8 @@ fn judged_carrier(c: Carrier, accepted: bool) -> Carrier
     if accepted {
         if next < c.rounds {
             let none = held_commitments(&[]);
-            carrier_with(c, CarrierPhase::TakeCommitments, next, none, [0; 193], 0)
+            let turn = no_turn();
+            carrier_with(c, CarrierPhase::TakeCommitments, next, none, turn, 0)
         } else {
             closed_carrier(Verdict::Accepted, next)
         }

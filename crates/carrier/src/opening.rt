@@ -5,6 +5,7 @@ use carrier_state::CarrierPhase;
 use carrier_state::answer;
 use carrier_state::closed_carrier;
 use carrier_state::held_commitments;
+use carrier_state::no_turn;
 use carrier_state::open_refusal;
 use field::from_slice;
 use scheme::scheme_of;
@@ -30,7 +31,7 @@ fn opened_carrier<'a>(system: &'a [u8], scheme: u8, rounds: u8, v: &'a [u8]) -> 
         accepted: 0,
         v: from_slice(v),
         commitments: held_commitments(&[]),
-        turn: [0; 193],
+        turn: no_turn(),
         challenge: 0,
     }
 }

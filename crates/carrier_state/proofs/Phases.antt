@@ -14,7 +14,7 @@ use Rattle.session_state.specs.declared.Verdict.the-variants.{Accepted, Rejecte
 use Rattle.session_state.specs.State.{nextCount}
 use Rattle.carrier_state.specs.declared.session.CarrierPhase.the-variants.{SetAlpha, SetChallenge, Closed}
 use Rattle.carrier_state.specs.declared.session.Carrier.{Carrier}
-use Rattle.carrier_state.specs.Carrier.{phaseNumber, heldCommitments, closedCarrier, carrierWith, openedCarrier, behindCommitments, withCommitments, withAlpha, withMiddle, withChallenge, judgedCarrier}
+use Rattle.carrier_state.specs.Carrier.{phaseNumber, heldCommitments, noTurn, closedCarrier, carrierWith, openedCarrier, behindCommitments, withCommitments, withAlpha, withMiddle, withChallenge, judgedCarrier}
 
 -- ---- only a closing or a refused opening closes a session
 
@@ -99,5 +99,5 @@ otherNumbers c = c .q ∷ c .n ∷ c .m ∷ c .rounds ∷ c .challenge ∷ (c .v
 
 -- the scheme, which is no number, is the first
 pub closed-zero : (verdict : Verdict) (count : ℕ) → (otherNumbers (closedCarrier verdict count) ≡ zeros 390) × (closedCarrier verdict count .scheme ≡ ThreePass)
-unfolding closedCarrier heldCommitments tabulate zeros
+unfolding closedCarrier heldCommitments noTurn tabulate zeros
 closed-zero verdict count = (refl, refl)

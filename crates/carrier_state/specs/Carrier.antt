@@ -1,5 +1,5 @@
 -- Document 01, "Sessions": the carrier's session, its calls' refusals and what they make of the session.
-use Prim.Native.Nat.{ℕ, _+_}
+use Prim.Native.Nat.{ℕ, _+_, _*_}
 use mathlib.Core.Bool.{Bool, cond}
 use mathlib.Core.List.{List, [], _∷_}
 use lib.Dec.{ltb, eqb}
@@ -33,16 +33,28 @@ phaseNumber TakeReply = 5
 unfoldable pub carrierDomain : Carrier → Domain
 carrierDomain c = record { scheme = c .scheme }
 
--- a round's commitments by value in 96 bytes, zero beyond their length
+-- the most bytes that a round's commitments have: three commitments of 32
+abbrev pub mostCommitments : ℕ
+mostCommitments = 32 * 3
+
+-- the most that α, t1 and e1 have: α, and 96 elements each
+abbrev pub mostTurn : ℕ
+mostTurn = 1 + 96 + 96
+
+-- a round's commitments by value, zero beyond their length
 unfoldable pub heldCommitments : List ℕ → List ℕ
-heldCommitments l = tabulate 96 (λ i. l ! i)
+heldCommitments l = tabulate mostCommitments (λ i. l ! i)
 
--- α, t1 and e1 by value in 193 bytes, zero beyond their length
+-- α, t1 and e1 by value, zero beyond their length
 unfoldable pub heldTurn : ℕ → List ℕ → List ℕ
-heldTurn α l = tabulate 193 (λ i. (α ∷ l) ! i)
+heldTurn α l = tabulate mostTurn (λ i. (α ∷ l) ! i)
 
--- "The closed session keeps the verdict and the count of accepted rounds. Its other numbers are zero.": a scheme is no number, and the first one stands there,
--- which is stored as 0
+-- none of them
+unfoldable pub noTurn : List ℕ
+noTurn = zeros mostTurn
+
+-- "The closed session keeps the verdict and the count of accepted rounds. Its other numbers are zero."
+-- A scheme is no number: the first one stands there, and no call's answer hangs on it
 unfoldable pub closedCarrier : Verdict → ℕ → Carrier
 closedCarrier verdict accepted =
     record {
@@ -55,7 +67,7 @@ closedCarrier verdict accepted =
       accepted = accepted;
       v = zeros 96;
       commitments = heldCommitments [];
-      turn = zeros 193;
+      turn = noTurn;
       challenge = 0;
     }
 
@@ -98,7 +110,7 @@ openedCarrier b scheme rounds v =
       accepted = 0;
       v = asVector v;
       commitments = heldCommitments [];
-      turn = zeros 193;
+      turn = noTurn;
       challenge = 0;
     }
 
@@ -113,7 +125,7 @@ unfoldable pub behindCommitments : Scheme → CarrierPhase
 behindCommitments scheme = cond (hasAlpha scheme) SetAlpha SetChallenge
 
 unfoldable pub withCommitments : Carrier → List ℕ → Carrier
-withCommitments c commitments = carrierWith c (behindCommitments (c .scheme)) (c .accepted) (heldCommitments commitments) (zeros 193) 0
+withCommitments c commitments = carrierWith c (behindCommitments (c .scheme)) (c .accepted) (heldCommitments commitments) noTurn 0
 
 -- ---- set α (scheme 5)
 
@@ -157,6 +169,6 @@ acceptsReply c b reply = accepts b (carrierDomain c) (c .v) (c .commitments) (c 
 unfoldable pub judgedCarrier : Carrier → Bool → Carrier
 judgedCarrier c accepted =
     cond accepted
-    (cond (ltb (nextCount (c .accepted)) (c .rounds)) (carrierWith c TakeCommitments (nextCount (c .accepted)) (heldCommitments []) (zeros 193) 0)
+    (cond (ltb (nextCount (c .accepted)) (c .rounds)) (carrierWith c TakeCommitments (nextCount (c .accepted)) (heldCommitments []) noTurn 0)
     (closedCarrier Accepted (nextCount (c .accepted))))
     (closedCarrier Rejected (c .accepted))

@@ -18,3 +18,4 @@ pub use session::carrier_with;
 pub use session::closed_carrier;
 pub use session::held_commitments;
 pub use session::held_turn;
+pub use session::no_turn;

@@ -1,12 +1,11 @@
 // The session's struct.
 use commitment::Domain;
-use field::from_slice;
 use scheme::Scheme;
 use session_state::Verdict;
 use slices::byte_at;
 ghost use mathlib.Core.Path.{_≡_};
 ghost use Rattle.refusal.specs.Refusal.{kept};
-ghost use Rattle.carrier_state.specs.Carrier.{phaseNumber, carrierDomain, heldCommitments, heldTurn, closedCarrier, carrierWith};
+ghost use Rattle.carrier_state.specs.Carrier.{phaseNumber, carrierDomain, heldCommitments, heldTurn, noTurn, closedCarrier, carrierWith};
 
 // The next call that is due.
 pub enum CarrierPhase {
@@ -90,7 +89,20 @@ pub fn carrier_domain(c: Carrier) -> Domain
 pub fn held_commitments(s: &[u8]) -> [u8; 96]
     ensures { λ r. ⌜ r ≡ heldCommitments (now (s .entry)) ⌝ }
 {
-    from_slice(s)
+    let mut out = [0; 96];
+    let mut i = 0;
+    while i < 96 {
+        out[i] = byte_at(s, i);
+        i += 1;
+    }
+    out
+}
+
+// No α, t1 and e1: zeros.
+pub fn no_turn() -> [u8; 193]
+    ensures { λ r. ⌜ r ≡ noTurn ⌝ }
+{
+    [0; 193]
 }
 
 // A closed session: the verdict, the count of accepted rounds, zeros, and the first scheme.
@@ -107,7 +119,7 @@ pub fn closed_carrier(verdict: Verdict, accepted: u8) -> Carrier
         accepted: accepted,
         v: [0; 96],
         commitments: held_commitments(&[]),
-        turn: [0; 193],
+        turn: no_turn(),
         challenge: 0,
     }
 }

@@ -1,4 +1,3 @@
--- The checks pass exactly where header and exchanges are valid; a record's bodies are its rounds; chains of refusals.
-pub mod Chains
+-- The checks pass exactly where header and exchanges are valid; a record's bodies are its rounds.
 pub mod ValidForm
 pub mod Rounds

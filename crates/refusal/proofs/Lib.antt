@@ -1,2 +1,3 @@
--- Laws of refusals and of what is kept.
+-- Laws of refusals, of what is kept, and of chains that are left at their first refusal.
 pub mod Refusals
+pub mod Chains

@@ -21,7 +21,7 @@ use Rattle.card_state.specs.declared.session.CardPhase.the-variants.{Commit, An
 use Rattle.card_state.specs.declared.session.Card.{Card}
 use Rattle.card_state.specs.Card.{phaseNumber, openedCard, closedCard, noLent, cardWith, behindCommit, keptE1, committedCard, answeredCard, heldLent, nextCard, repliedCard}
 use Rattle.session.specs.Session.{Terms, passes, put, Given, World, cardMoves}
-use Rattle.session.specs.Histories.{IsGiven}
+use Rattle.session.specs.Histories.{IsLogged}
 use Rattle.session.proofs.Logs.{Clear, put-there, put-stays, put-clear, clear-next}
 use Rattle.session.proofs.Phases.{same-card-phase}
 use Rattle.session.proofs.Schemes.{by-scheme}
@@ -79,9 +79,9 @@ module _ (o : Terms) where
 
   pub data CardProgress (g : Given) (card : Card) (r : ℕ) : CardPhase → Type 0 where
     commit-due : card ≡ freshCard r → Clear (g .commitments) r → Clear (g .middles) r → CardProgress g card r Commit
-    alpha-due : (b lent : List ℕ) → card ≡ heldCard b AnswerAlpha r lent → passes o ≡ FivePass → IsGiven (g .commitments r) → Clear (g .commitments) (r + 1) → Clear (g .middles) r →
+    alpha-due : (b lent : List ℕ) → card ≡ heldCard b AnswerAlpha r lent → passes o ≡ FivePass → IsLogged (g .commitments r) → Clear (g .commitments) (r + 1) → Clear (g .middles) r →
         CardProgress g card r AnswerAlpha
-    reply-due : (b lent : List ℕ) → card ≡ heldCard b Reply r lent → IsGiven (g .commitments r) → Clear (g .commitments) (r + 1) → (passes o ≡ ThreePass) ⊎ IsGiven (g .middles r) →
+    reply-due : (b lent : List ℕ) → card ≡ heldCard b Reply r lent → IsLogged (g .commitments r) → Clear (g .commitments) (r + 1) → (passes o ≡ ThreePass) ⊎ IsLogged (g .middles r) →
         Clear (g .middles) (r + 1) → CardProgress g card r Reply
 
   pub data CardGoes (g : Given) (card : Card) (r : ℕ) : Type 0 where
@@ -90,7 +90,7 @@ module _ (o : Terms) where
 
   pub record CardHistory (w : World) : Type 0 where
     pub goes : CardGoes (w .history .given) (w .card) (w .history .cardRound)
-    pub replied : (k : ℕ) → k < w .history .cardRound → IsGiven (w .history .given .replies k)
+    pub replied : (k : ℕ) → k < w .history .cardRound → IsLogged (w .history .given .replies k)
     pub no-replies : Clear (w .history .given .replies) (w .history .cardRound)
 
   -- ---- the phase
@@ -131,7 +131,7 @@ module _ (o : Terms) where
   committed : (g : Given) (card : Card) (r : ℕ) (b lent c : List ℕ) → CardProgress g card r Commit →
       (p : CardPhase) × CardProgress (withCommitments g r c) (committedCard card b lent) r p
   committed g card r b lent c (commit-due is no-commitments no-middles) =
-      let given : IsGiven (put (g .commitments) r c r) = (c, put-there (g .commitments) r c) in
+      let given : IsLogged (put (g .commitments) r c r) = (c, put-there (g .commitments) r c) in
       let no-more = put-clear (g .commitments) r c no-commitments in
       let next = ap (λ (c : Card). committedCard c b lent) is in
       by-scheme (passes o)

@@ -26,7 +26,7 @@ use Rattle.card_state.specs.declared.session.CardPhase.{CardPhase}
 use Rattle.card_state.specs.declared.session.CardPhase.the-variants.{AnswerAlpha, Reply}
 use Rattle.card_state.specs.declared.session.Card.{Card}
 use Rattle.card_state.specs.Card as CardCalls
-use Rattle.card_state.specs.Card.{phaseNumber, cardDomain, openedCard, closedCard, cardWith, heldVectors, keptE1, committedCard, sentCommitments, answeredCard, sentMiddle, repliedCard, replyOf, sentReply, commitRefusal, alphaRefusal, replyRefusal}
+use Rattle.card_state.specs.Card.{phaseNumber, cardDomain, openedCard, closedCard, cardWith, heldVectors, keptE1, committedCard, sentCommitments, answeredCard, sentMiddle, repliedCard, formedReply, sentReply, commitRefusal, alphaRefusal, replyRefusal}
 use Rattle.card_state.proofs.Taken.{commit-taken, commit-due, alpha-taken, alpha-due, reply-taken, reply-due}
 use Rattle.session.specs.Session.{Terms, passes, Given, Asked, World, cardMoves}
 use Rattle.session.proofs.Logs.{Clear, put-there, put-stays, put-clear, clear-next, stays-on}
@@ -58,8 +58,8 @@ lendingCard scheme phase rounds round b s lent =
 
 -- what it replies
 reply-of : (scheme : Scheme) (phase : CardPhase) (rounds round : ℕ) (b s lent : List ℕ) (challenge : ℕ) →
-    replyOf scheme (lendingCard scheme phase rounds round b s lent) challenge ≡ St.replyBytes scheme b s lent challenge
-unfolding replyOf keptE1 St.replyBytes heldVectors threeReplied threeVectors replyThree cardThree r1Of t1Of mapOf
+    formedReply scheme (lendingCard scheme phase rounds round b s lent) challenge ≡ St.replyBytes scheme b s lent challenge
+unfolding formedReply keptE1 St.replyBytes heldVectors threeReplied threeVectors replyThree cardThree r1Of t1Of mapOf
 reply-of ThreePass phase rounds round b s lent challenge = refl
 reply-of FivePass phase rounds round b s lent challenge = refl
 

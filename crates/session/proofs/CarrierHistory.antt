@@ -10,7 +10,7 @@ use native.Mathlib.Decide.{decLe}
 use native.Mathlib.Omega.{arith}
 use lib.ListN.{length}
 use borrow.Author.Tests.{lt-ltb, le-ltb}
-use Rattle.slices.specs.Slices.{_!_, zeros}
+use Rattle.slices.specs.Slices.{_!_}
 use Rattle.slices.proofs.Tabulate.{tabulate-at}
 use Rattle.refusal.proofs.Refusals.{first-zero, later-zero, equal-holds}
 use Rattle.field.specs.Vector.{asVector}
@@ -27,7 +27,7 @@ use Rattle.session_state.proofs.States.{state-due, count-below}
 use Rattle.carrier_state.specs.declared.session.CarrierPhase.{CarrierPhase}
 use Rattle.carrier_state.specs.declared.session.CarrierPhase.the-variants.{TakeCommitments, SetAlpha, TakeMiddle, SetChallenge, TakeReply}
 use Rattle.carrier_state.specs.declared.session.Carrier.{Carrier}
-use Rattle.carrier_state.specs.Carrier.{phaseNumber, carrierDomain, closedCarrier, carrierWith, heldCommitments, heldTurn, openedCarrier, commitmentsRefusal, behindCommitments, withCommitments, alphaRefusal, withAlpha, middleRefusal, withMiddle, challengeRefusal, withChallenge, replyRefusal, acceptsReply, judgedCarrier}
+use Rattle.carrier_state.specs.Carrier.{phaseNumber, carrierDomain, closedCarrier, carrierWith, heldCommitments, heldTurn, mostCommitments, mostTurn, noTurn, openedCarrier, commitmentsRefusal, behindCommitments, withCommitments, alphaRefusal, withAlpha, middleRefusal, withMiddle, challengeRefusal, withChallenge, replyRefusal, acceptsReply, judgedCarrier}
 use Rattle.session.specs.Session.{Terms, passes, domainOf, Log, put, Asked, Taken, Judgement, History, World, carrierMoves}
 use Rattle.session.specs.Histories.{Turn, JudgedByCheck}
 use Rattle.session.proofs.Logs.{Clear, Stays, same-message, put-there, put-other, put-stays, put-clear, clear-next}
@@ -87,14 +87,14 @@ module _ (o : Terms) where
   unfoldable pub carrierAt : CarrierPhase → ℕ → List ℕ → List ℕ → ℕ → Carrier
   carrierAt phase r commitments turn challenge = carrierWith openCarrier phase r commitments turn challenge
 
-  pub carrier-opens : openCarrier ≡ carrierAt TakeCommitments 0 (heldCommitments []) (zeros 193) 0
+  pub carrier-opens : openCarrier ≡ carrierAt TakeCommitments 0 (heldCommitments []) noTurn 0
   unfolding carrierAt carrierWith openedCarrier
   carrier-opens = refl
 
   pub took-commitments : (r : ℕ) (c : List ℕ) (phase : CarrierPhase) → behindCommitments (passes o) ≡ phase →
-      withCommitments (carrierAt TakeCommitments r (heldCommitments []) (zeros 193) 0) c ≡ carrierAt phase r (heldCommitments c) (zeros 193) 0
+      withCommitments (carrierAt TakeCommitments r (heldCommitments []) noTurn 0) c ≡ carrierAt phase r (heldCommitments c) noTurn 0
   unfolding withCommitments carrierAt carrierWith openedCarrier
-  took-commitments r c phase e = ap (λ (p : CarrierPhase). carrierAt p r (heldCommitments c) (zeros 193) 0) e
+  took-commitments r c phase e = ap (λ (p : CarrierPhase). carrierAt p r (heldCommitments c) noTurn 0) e
 
   took-alpha : (r : ℕ) (c m : List ℕ) (α : ℕ) → withAlpha (carrierAt SetAlpha r c m 0) α ≡ carrierAt TakeMiddle r c (heldTurn α []) 0
   unfolding withAlpha carrierAt carrierWith openedCarrier
@@ -102,7 +102,7 @@ module _ (o : Terms) where
 
   alpha-held : (α : ℕ) → heldTurn α [] ! 0 ≡ α
   unfolding heldTurn
-  alpha-held α = tabulate-at 193 (λ i. (α ∷ []) ! i) 0 (omega arith)
+  alpha-held α = tabulate-at mostTurn (λ i. (α ∷ []) ! i) 0 (omega arith)
 
   took-middle : (r : ℕ) (c : List ℕ) (α : ℕ) (l : List ℕ) →
       withMiddle (carrierAt TakeMiddle r c (heldTurn α []) 0) l ≡ carrierAt SetChallenge r c (heldTurn α l) 0
@@ -114,7 +114,7 @@ module _ (o : Terms) where
   took-challenge r c m challenge = refl
 
   pub judged-next : (r : ℕ) (c m : List ℕ) (challenge : ℕ) → r + 1 < o .rounds → o .rounds < 256 →
-      judgedCarrier (carrierAt TakeReply r c m challenge) true ≡ carrierAt TakeCommitments (r + 1) (heldCommitments []) (zeros 193) 0
+      judgedCarrier (carrierAt TakeReply r c m challenge) true ≡ carrierAt TakeCommitments (r + 1) (heldCommitments []) noTurn 0
   unfolding judgedCarrier carrierAt carrierWith openedCarrier
   judged-next r c m challenge more small =
       let count : nextCount r ≡ r + 1 = count-below r (o .rounds) (omega arith) small in
@@ -152,8 +152,8 @@ module _ (o : Terms) where
         turn ≡ heldTurn α l → TurnHeld a t r turn
 
   pub data Progress (a : Asked) (t : Taken) (carrier : Carrier) (r : ℕ) : CarrierPhase → Type 0 where
-    commitments-due : carrier ≡ carrierAt TakeCommitments r (heldCommitments []) (zeros 193) 0 → ClearFrom a t r r r r → Progress a t carrier r TakeCommitments
-    alpha-due : (c : List ℕ) → passes o ≡ FivePass → CommitmentsTaken t r c → carrier ≡ carrierAt SetAlpha r (heldCommitments c) (zeros 193) 0 →
+    commitments-due : carrier ≡ carrierAt TakeCommitments r (heldCommitments []) noTurn 0 → ClearFrom a t r r r r → Progress a t carrier r TakeCommitments
+    alpha-due : (c : List ℕ) → passes o ≡ FivePass → CommitmentsTaken t r c → carrier ≡ carrierAt SetAlpha r (heldCommitments c) noTurn 0 →
         ClearFrom a t (r + 1) r r r → Progress a t carrier r SetAlpha
     middle-due : (c : List ℕ) (α : ℕ) → passes o ≡ FivePass → CommitmentsTaken t r c → a .alphas r ≡ some α →
         carrier ≡ carrierAt TakeMiddle r (heldCommitments c) (heldTurn α []) 0 → ClearFrom a t (r + 1) (r + 1) r r → Progress a t carrier r TakeMiddle
@@ -292,7 +292,7 @@ module _ (o : Terms) where
       by-scheme (passes o)
       (λ three. (
         SetChallenge,
-        challenge-due c (zeros 193) taken (none-held three) (is ∙ took-commitments r c SetChallenge (three-behind (passes o) three))
+        challenge-due c noTurn taken (none-held three) (is ∙ took-commitments r c SetChallenge (three-behind (passes o) three))
             (record {
               no-commitments = no-more;
               no-alphas = clear-next _ r (clear .no-alphas);
@@ -343,7 +343,7 @@ module _ (o : Terms) where
   with-alpha : (a : Asked) (t : Taken) (carrier : Carrier) (r α : ℕ) → Progress a t carrier r SetAlpha →
       Progress (withAlphas a r α) t (withAlpha carrier α) r TakeMiddle
   with-alpha a t carrier r α (alpha-due c five taken e clear) =
-      middle-due c α five taken (put-there (a .alphas) r α) (ap (λ (k : Carrier). withAlpha k α) e ∙ took-alpha r (heldCommitments c) (zeros 193) α)
+      middle-due c α five taken (put-there (a .alphas) r α) (ap (λ (k : Carrier). withAlpha k α) e ∙ took-alpha r (heldCommitments c) noTurn α)
       (record {
         no-commitments = clear .no-commitments;
         no-alphas = put-clear (a .alphas) r α (clear .no-alphas);
@@ -480,13 +480,13 @@ module _ (o : Terms) where
   unfolding acceptsReply carrierDomain carrierAt carrierWith openedCarrier
   held-verdict phase r c m challenge b reply = refl
 
-  held-reads : (α : ℕ) (l : List ℕ) → length (α ∷ l) ≤ 193 → (i : ℕ) → heldTurn α l ! i ≡ (α ∷ l) ! i
+  held-reads : (α : ℕ) (l : List ℕ) → length (α ∷ l) ≤ mostTurn → (i : ℕ) → heldTurn α l ! i ≡ (α ∷ l) ! i
   unfolding heldTurn
-  held-reads α l room = reads-tabulate 193 (α ∷ l) room
+  held-reads α l room = reads-tabulate mostTurn (α ∷ l) room
 
   commitments-read : (c : List ℕ) → length c ≡ commitmentsLength (passes o) → (i : ℕ) → heldCommitments c ! i ≡ c ! i
   unfolding heldCommitments
-  commitments-read c long = reads-tabulate 96 c (omega (arith, long, few-commitments (passes o)))
+  commitments-read c long = reads-tabulate mostCommitments c (omega (arith, long, few-commitments (passes o)))
 
   module _ (k : CarrierOpens) where
     turn-read : (a : Asked) (t : Taken) (r : ℕ) (c m : List ℕ) (challenge : ℕ) (b reply : List ℕ) → length c ≡ commitmentsLength (passes o) → TurnHeld a t r m →

@@ -31,7 +31,7 @@ use Rattle.carrier_state.specs.declared.session.Carrier.{Carrier}
 use Rattle.carrier_state.specs.Carrier as CarrierCalls
 use Rattle.carrier_state.proofs.Eleven as CarrierEleven
 use Rattle.session.specs.Session.{Terms, passes, Call, commit, answerAlpha, reply, takeCommitments, setAlpha, takeMiddle, setChallenge, takeReply, Log, Judgement, World, opened, refusal, effect, step, after}
-use Rattle.session.specs.Histories.{acceptOf, acceptCount, CardOver, RejectedOne, AcceptedAll, CarrierOver, IsGiven, Next, here, later, cardOrder, CardMade, carrierOrder, CarrierMade, on-card, on-carrier, placeOf, OnCard, OverAt, NextAt, DueAt, StateRefusals, CarrierClaim, CardClaim}
+use Rattle.session.specs.Histories.{acceptOf, acceptCount, CardOver, RejectedOne, AcceptedAll, CarrierOver, IsLogged, Next, here, later, cardOrder, CardMade, carrierOrder, CarrierMade, on-card, on-carrier, placeOf, OnCard, OverAt, NextAt, DueAt, StateRefusals, CarrierClaim, CardClaim}
 use Rattle.session.proofs.Logs.{Clear, none-given, given-before}
 use Rattle.session.proofs.Phases.{same-card-phase, same-carrier-phase, not-both, next-unique}
 use Rattle.session.proofs.Schemes.{by-scheme}
@@ -40,7 +40,7 @@ use Rattle.session.proofs.CarrierHistory.{Answered, AllAccepted, Carrie
 use Rattle.session.proofs.CardHistory as Cd
 use Rattle.session.proofs.CardHistory.{CardHistory, CardGoes, CardProgress}
 
-not-given : {A : Type 0} (log : Log A) (r : ℕ) → Clear log r → IsGiven (log r) → ⊥
+not-given : {A : Type 0} (log : Log A) (r : ℕ) → Clear log r → IsLogged (log r) → ⊥
 not-given log r clear (x, e) = none-given x (sym (clear r (le-refl r)) ∙ e)
 
 -- ---- the count

@@ -7,7 +7,6 @@ use mathlib.Core.List.{List, [], _∷_, _++_}
 use mathlib.Core.Option.{some}
 use native.Mathlib.Omega.{arith}
 use lib.ListN.{length, take}
-use Rattle.slices.specs.Slices.{zeros}
 use Rattle.refusal.proofs.Refusals.{kept-accepted}
 use Rattle.field.specs.Vector.{Elements, allBelow}
 use Rattle.system.specs.System.{qOf, nOf, mOf, systemRefusal}
@@ -24,12 +23,12 @@ use Rattle.card_state.specs.declared.session.CardPhase.{CardPhase}
 use Rattle.card_state.specs.declared.session.CardPhase.the-variants.{AnswerAlpha, Reply}
 use Rattle.card_state.specs.declared.session.Card.{Card}
 use Rattle.card_state.specs.Card as CardCalls
-use Rattle.card_state.specs.Card.{behindCommit, committedCard, cardWith, openedCard, answeredCard, heldLent, commitmentsOf, sentCommitments, sentMiddle, sentReply}
+use Rattle.card_state.specs.Card.{behindCommit, committedCard, cardWith, openedCard, answeredCard, heldLent, formedCommitments, sentCommitments, sentMiddle, sentReply}
 use Rattle.carrier_state.specs.declared.session.CarrierPhase.{CarrierPhase}
 use Rattle.carrier_state.specs.declared.session.CarrierPhase.the-variants.{TakeCommitments, SetAlpha, SetChallenge, TakeReply}
 use Rattle.carrier_state.specs.declared.session.Carrier.{Carrier}
 use Rattle.carrier_state.specs.Carrier as CarrierCalls
-use Rattle.carrier_state.specs.Carrier.{heldCommitments, behindCommitments, carrierWith, openedCarrier, withAlpha, withMiddle, withChallenge, judgedCarrier}
+use Rattle.carrier_state.specs.Carrier.{heldCommitments, noTurn, behindCommitments, carrierWith, openedCarrier, withAlpha, withMiddle, withChallenge, judgedCarrier}
 use Rattle.session.specs.Session.{Terms, passes, domainOf, Call, Given, Asked, Taken, Judgement, Log, World, opened, refusal, effect, step, after}
 use Rattle.session.specs.Honest.{Unaltered, Honest, Fitting, Ended, Holds}
 use Rattle.session.specs.Played.{Openable, Draw, Fits, zeroDraw, drawsFrom, AllFit, fresh, lending, committing, taking, setting, answering, taking-middle, asking, replying, judging, exchangeCalls, exchanging, sessionCalls, aheadFrom, aheadCalls, Plays}
@@ -55,8 +54,8 @@ went w c none = kept-accepted (refusal w c) w (effect w c) none
 -- ---- what the card sends has its lengths and elements
 
 commitments-length : (scheme : Scheme) (d : Domain) (b : List ℕ) → systemRefusal b ≡ 0 → (s lent : List ℕ) →
-    length (commitmentsOf scheme d b s lent) ≡ commitmentsLength scheme
-unfolding commitmentsOf commitmentsLength commitmentCount
+    length (formedCommitments scheme d b s lent) ≡ commitmentsLength scheme
+unfolding formedCommitments commitmentsLength commitmentCount
 commitments-length ThreePass d b good s lent = three-commitments-long b good d s lent
 commitments-length FivePass d b good s lent = five-commitments-long b good d s lent
 
@@ -84,7 +83,7 @@ module _ (o : Terms) (k : Opens o) where
   -- ---- both ends in a round
 
   abbrev freshCarrier : ℕ → Carrier
-  freshCarrier r = carrierAt o TakeCommitments r (heldCommitments []) (zeros 193) 0
+  freshCarrier r = carrierAt o TakeCommitments r (heldCommitments []) noTurn 0
 
   -- what is due at the card, and at the carrier, behind the commitments
   abbrev cardNext : CardPhase
@@ -221,8 +220,8 @@ module _ (o : Terms) (k : Opens o) where
       begun : (g : Given) (a : Asked) (t : Taken) (j : Log Judgement) (card-due : CardPhase) (carrier-due : CarrierPhase) (later : List Call) →
           carrierNext ≡ carrier-due → g .commitments r ≡ some (sentCommitments (fresh o) (o .system) (d .lent)) →
           Link o (both (heldCard o (o .system) card-due r (d .lent)) (freshCarrier r) r g a t j) →
-          ((t′ : Taken) (c : List ℕ) → Link o (both (heldCard o (o .system) card-due r (d .lent)) (carrierAt o carrier-due r c (zeros 193) 0) r g a t′ j) →
-          Plays o (both (heldCard o (o .system) card-due r (d .lent)) (carrierAt o carrier-due r c (zeros 193) 0) r g a t′ j) later) →
+          ((t′ : Taken) (c : List ℕ) → Link o (both (heldCard o (o .system) card-due r (d .lent)) (carrierAt o carrier-due r c noTurn 0) r g a t′ j) →
+          Plays o (both (heldCard o (o .system) card-due r (d .lent)) (carrierAt o carrier-due r c noTurn 0) r g a t′ j) later) →
           Plays o (both (heldCard o (o .system) card-due r (d .lent)) (freshCarrier r) r g a t j) (taking o d ∷ later)
       unfolding AtPhase Fitting Unaltered effect carrierAt carrierWith openedCarrier CarrierCalls.phaseNumber
       begun g a t j card-due carrier-due later e given l next =

@@ -15,7 +15,7 @@ use Rattle.honest.proofs.Honest.{fiveMiddle, fiveReplied}
 use Rattle.card_state.specs.declared.session.CardPhase.the-variants.{AnswerAlpha, Reply}
 use Rattle.card_state.specs.declared.session.Card.{Card}
 use Rattle.card_state.specs.Card as CardCalls
-use Rattle.card_state.specs.Card.{commitmentsOf}
+use Rattle.card_state.specs.Card.{formedCommitments}
 use Rattle.session.specs.Session.{Terms, passes, domainOf, Given, Asked, Taken, World}
 use Rattle.session.proofs.Logs.{Clear, Stays}
 use Rattle.session.proofs.CardHistory.{freshCard, heldCard, CardHistory}
@@ -33,7 +33,7 @@ module _ (o : Terms) where
   secretOf = asVector (o .secret)
 
   abbrev pub givenCommitments : List ℕ → List ℕ
-  givenCommitments lent = commitmentsOf (passes o) (domainOf o) (o .system) secretOf lent
+  givenCommitments lent = formedCommitments (passes o) (domainOf o) (o .system) secretOf lent
 
   unfoldable pub givenMiddle : List ℕ → ℕ → List ℕ
   givenMiddle lent α = middleBytes (nOf (o .system)) (mOf (o .system)) (fiveMiddle (o .system) lent α)

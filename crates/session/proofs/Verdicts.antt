@@ -15,7 +15,7 @@ use Rattle.protocol.specs.Rounds.{IsX}
 use Rattle.exchange.specs.Messages.{accepts, threeCommitments, fiveCommitments, replyThreeBytes, replyFiveBytes}
 use Rattle.exchange.specs.Card.{threeCommitted, threeReplied, fiveCommitted}
 use Rattle.honest.proofs.Honest.{fiveReplied, honest-three, honest-five}
-use Rattle.card_state.specs.Card.{commitmentsOf}
+use Rattle.card_state.specs.Card.{formedCommitments}
 use Rattle.carrier_state.specs.Carrier.{replyRefusal, acceptsReply}
 use Rattle.session.specs.Session.{Terms, passes, domainOf, Log, Given, Asked, World}
 use Rattle.session.specs.Histories.{Turn}
@@ -50,13 +50,13 @@ five-turn scheme alphas middles r turn five sent-on = rw five at sent-on
 -- ---- what the card gave, by the scheme
 
 three-commitments : (scheme : Scheme) (d : Domain) (b s lent : List ℕ) → scheme ≡ ThreePass →
-    commitmentsOf scheme d b s lent ≡ threeCommitments (threeCommitted d b s lent)
-unfolding commitmentsOf
+    formedCommitments scheme d b s lent ≡ threeCommitments (threeCommitted d b s lent)
+unfolding formedCommitments
 three-commitments scheme d b s lent three = rw three
 
 five-commitments : (scheme : Scheme) (d : Domain) (b s lent : List ℕ) → scheme ≡ FivePass →
-    commitmentsOf scheme d b s lent ≡ fiveCommitments (fiveCommitted d b s lent)
-unfolding commitmentsOf
+    formedCommitments scheme d b s lent ≡ fiveCommitments (fiveCommitted d b s lent)
+unfolding formedCommitments
 five-commitments scheme d b s lent five = rw five
 
 three-reply : (scheme : Scheme) (b s lent : List ℕ) (challenge : ℕ) → scheme ≡ ThreePass →

@@ -75,8 +75,9 @@ CarrierOver o h = RejectedOne h ⊎ AcceptedAll o h
 
 -- ---- which call is due
 
-abbrev pub IsGiven : {A : Type 0} → Option A → Type 0
-IsGiven {A = A} message = (x : A) × (message ≡ some x)
+-- there is a message in that place of a log, given, set or taken
+abbrev pub IsLogged : {A : Type 0} → Option A → Type 0
+IsLogged {A = A} message = (x : A) × (message ≡ some x)
 
 -- the first in a round's order that has not been made
 pub data Next {A : Type 0} (Made : A → Type 0) : List A → A → Type 0 where
@@ -90,9 +91,9 @@ cardOrder FivePass = Commit ∷ AnswerAlpha ∷ Reply ∷ []
 
 -- made: what it gives was given in this round
 unfoldable pub CardMade : History → CardPhase → Type 0
-CardMade h Commit = IsGiven (h .given .commitments (h .cardRound))
-CardMade h AnswerAlpha = IsGiven (h .given .middles (h .cardRound))
-CardMade h Reply = IsGiven (h .given .replies (h .cardRound))
+CardMade h Commit = IsLogged (h .given .commitments (h .cardRound))
+CardMade h AnswerAlpha = IsLogged (h .given .middles (h .cardRound))
+CardMade h Reply = IsLogged (h .given .replies (h .cardRound))
 CardMade h (CardPhases.Closed verdict) = ⊥
 
 -- "then per round take commitments, set α (scheme 5), take t1 and e1 (scheme 5), set challenge, take reply"
@@ -102,11 +103,11 @@ carrierOrder FivePass = TakeCommitments ∷ SetAlpha ∷ TakeMiddle ∷ SetChall
 
 -- made: what it takes or sets was taken or set in this round
 unfoldable pub CarrierMade : History → CarrierPhase → Type 0
-CarrierMade h TakeCommitments = IsGiven (h .taken .commitments (h .carrierRound))
-CarrierMade h SetAlpha = IsGiven (h .asked .alphas (h .carrierRound))
-CarrierMade h TakeMiddle = IsGiven (h .taken .middles (h .carrierRound))
-CarrierMade h SetChallenge = IsGiven (h .asked .challenges (h .carrierRound))
-CarrierMade h TakeReply = IsGiven (h .judged (h .carrierRound))
+CarrierMade h TakeCommitments = IsLogged (h .taken .commitments (h .carrierRound))
+CarrierMade h SetAlpha = IsLogged (h .asked .alphas (h .carrierRound))
+CarrierMade h TakeMiddle = IsLogged (h .taken .middles (h .carrierRound))
+CarrierMade h SetChallenge = IsLogged (h .asked .challenges (h .carrierRound))
+CarrierMade h TakeReply = IsLogged (h .judged (h .carrierRound))
 CarrierMade h (CarrierPhases.Closed verdict) = ⊥
 
 -- the end on which a call is made, and the phase that waits for it there
@@ -159,7 +160,7 @@ pub record StateRefusals (o : Terms) (w : World) (c : Call) : Type 0 where
 pub record CarrierClaim (o : Terms) (w : World) : Type 0 where
   -- each round that is over was judged by the scheme's check of what was taken and set for it, and no other was judged
   pub judged : (r : ℕ) → r < w .history .carrierRound → JudgedByCheck o (w .history) r
-  pub unjudged : (r : ℕ) → IsGiven (w .history .judged r) → r < w .history .carrierRound
+  pub unjudged : (r : ℕ) → IsLogged (w .history .judged r) → r < w .history .carrierRound
   -- "it equals the rounds accepted by definition"
   pub count : w .carrier .accepted ≡ acceptCount (w .history .judged) (w .history .carrierRound)
   pub rejected-exactly : (w .carrier .phase ≡ CarrierPhases.Closed Rejected) ↔ RejectedOne (w .history)
@@ -175,7 +176,7 @@ pub record CarrierClaim (o : Terms) (w : World) : Type 0 where
 
 -- of the card, whose opening was not refused
 pub record CardClaim (o : Terms) (w : World) : Type 0 where
-  pub replies-given : (r : ℕ) → IsGiven (w .history .given .replies r) ↔ (r < w .history .cardRound)
+  pub replies-given : (r : ℕ) → IsLogged (w .history .given .replies r) ↔ (r < w .history .cardRound)
   -- "After round N the card's session is closed and every number in it is zero.", and no sooner
   pub closed-exactly : (w .card ≡ CardCalls.closedCard) ↔ CardOver o (w .history)
   pub phase-is : (phase : CardPhase) → (CardCalls.phaseNumber phase ≡ 0 → ⊥) → (w .card .phase ≡ phase) ↔ DueAt o (w .history) (on-card phase)

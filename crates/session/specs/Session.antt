@@ -14,7 +14,8 @@ use Rattle.card_state.specs.Card as CardCalls
 use Rattle.carrier_state.specs.declared.session.Carrier.{Carrier}
 use Rattle.carrier_state.specs.Carrier as CarrierCalls
 
--- what both ends are opened with: "the same system, scheme, N and v, where F(s) = v"
+-- what both ends are opened with: "the same system, scheme, N and v", and the card's s. Whether F(s) = v, and whether the openings are refused, is not said
+-- here but by `Openable` (Played.antt)
 pub record Terms : Type 0 where
   pub system : List ℕ
   pub scheme : ℕ

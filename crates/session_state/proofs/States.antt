@@ -1,13 +1,13 @@
--- No refusal by the state exactly where the call is due, 11 exactly where the session is closed, and chains that end at their first refusal. Assumes nothing.
+-- No refusal by the state exactly where the call is due, and 11 exactly where the session is closed. Assumes nothing.
 use Prim.Native.Nat.{ℕ, _+_, _≤_, _<_}
-use mathlib.Core.Path.{_≡_, refl, sym, ap, _∙_}
+use mathlib.Core.Path.{_≡_, refl, ap, _∙_}
 use mathlib.Core.Bool.{Bool, true, false, cond}
 use mathlib.Core.Logic.{_↔_}
 use native.Mathlib.Omega.{arith}
 use lib.Dec.{eqb}
 use borrow.Author.Tests.{eqb-true, eqb-false, ne-eqb, eq-eqb}
 use Rattle.refusal.specs.Refusal.{unless, _orElse_}
-use Rattle.refusal.proofs.Refusals.{equal-holds, first-decides, later-decides}
+use Rattle.refusal.proofs.Refusals.{equal-holds}
 use Rattle.session_state.specs.State.{stateRefusal, nextCount}
 
 pub state-due : (phase due : ℕ) → stateRefusal phase due ≡ 0 → phase ≡ due
@@ -55,13 +55,3 @@ by-state-ten refusal phase due s = rw (s .is) (go (eqb phase 0) (eqb phase due) 
     go true isDue e d = (λ h. absurd (omega arith), λ (open-yet, other). absurd (open-yet (eqb-true phase 0 e)))
     go false true e d = (λ h. absurd (omega (arith, s .few)), λ (open-yet, other). absurd (other (eqb-true phase due d)))
     go false false e d = (λ h. (eqb-false phase 0 e, eqb-false phase due d), λ both. refl)
-
--- ---- a chain of refusals that ends at the first
-
--- the first refuses
-pub ends-here : (r a rest : ℕ) → r ≡ a → (r ≡ 0 → ⊥) → r ≡ (a orElse rest)
-ends-here r a rest e some = e ∙ sym (first-decides a rest (λ none. some (e ∙ none)))
-
--- it does not, and the rest decides
-pub goes-on : (r a rest x : ℕ) → r ≡ a → r ≡ 0 → x ≡ rest → x ≡ (a orElse rest)
-goes-on r a rest x e none ex = ex ∙ sym (later-decides a rest (sym e ∙ none))

@@ -17,7 +17,7 @@ use Rattle.round.proofs.Acceptance.{accepted-simulated}
 use Rattle.exchange.specs.Messages.{lentIn, openings, accepts}
 use Rattle.exchange.proofs.ReadBack.{IsReplyThree, length-bytes, length-three-commitments, three-at, reply-three-length, reply-three-back}
 use Rattle.exchange.proofs.Formed.{LentIs, as-vector-is, slot-is, lent-is, lends-behind, are-three, replied-is}
-use Rattle.simulator.specs.Simulator.{simulateRefusal, lentBehind, vectorsFrom, vectorsIn, simulatorDomain, simulatedCommitments, simulatedReply}
+use Rattle.simulator.specs.Simulator.{simulateRefusal, lentBehind, vectorsFrom, lentVectors, simulatorDomain, simulatedCommitments, simulatedReply}
 use Rattle.simulator.proofs.NotRefused.{Taken, taken}
 
 -- the commitments have their length whatever is lent
@@ -41,8 +41,8 @@ module _ (b v : List ℕ) (unanswered challenge : ℕ) (lent : List ℕ) (commit
 
   -- ---- what is written
 
-  reply-is : IsReplyThree (opsOf b) (nOf b) (mOf b) (replyThree (vectorsIn b unanswered v lent) (lentBehind (nOf b) (mOf b) lent .rhos) challenge)
-  unfolding vectorsIn vectorsFrom lentBehind lentIn
+  reply-is : IsReplyThree (opsOf b) (nOf b) (mOf b) (replyThree (lentVectors b unanswered v lent) (lentBehind (nOf b) (mOf b) lent .rhos) challenge)
+  unfolding lentVectors vectorsFrom lentBehind lentIn
   reply-is =
       replied-is b _ (lentBehind (nOf b) (mOf b) lent .rhos)
       (elements-simulated b (k .good) unanswered (asVector v) (slotV (nOf b) 0 lent) _ _ _ (behind-is .r0-is) (behind-is .t0-is) (behind-is .e0-is))
@@ -55,7 +55,7 @@ module _ (b v : List ℕ) (unanswered challenge : ℕ) (lent : List ℕ) (commit
   -- "A reply to Ch ≠ Ch* is accepted": there is no turn in three passes, so it is any list
   pub simulated-accepted : (turn : List ℕ) →
       accepts b simulatorDomain (asVector v) (simulatedCommitments b v unanswered lent) turn challenge (simulatedReply b v unanswered challenge lent) ≡ true
-  unfolding accepts openings simulatorDomain simulatedCommitments simulatedReply vectorsIn vectorsFrom lentBehind
+  unfolding accepts openings simulatorDomain simulatedCommitments simulatedReply lentVectors vectorsFrom lentBehind
   simulated-accepted turn =
       let a = accepted b (k .good) in
       rw (reply-three-back (opsOf b) (nOf b) (mOf b) _ (a .n-high) (a .m-high) reply-is)

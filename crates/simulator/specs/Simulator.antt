@@ -37,8 +37,8 @@ unfoldable pub vectorsFrom : List ℕ → ℕ → List ℕ → List ℕ → Lent
 vectorsFrom b unanswered v lent l = simulated (mapOf b) unanswered (asVector v) (slotV (nOf b) 0 lent) (l .r0) (l .t0) (l .e0)
 
 -- the same from the whole slice
-unfoldable pub vectorsIn : List ℕ → ℕ → List ℕ → List ℕ → Vectors (List ℕ) (List ℕ)
-vectorsIn b unanswered v lent = vectorsFrom b unanswered v lent (lentBehind (nOf b) (mOf b) lent)
+unfoldable pub lentVectors : List ℕ → ℕ → List ℕ → List ℕ → Vectors (List ℕ) (List ℕ)
+lentVectors b unanswered v lent = vectorsFrom b unanswered v lent (lentBehind (nOf b) (mOf b) lent)
 
 -- "One three-pass round without s"
 unfoldable pub simulatorDomain : Domain
@@ -47,8 +47,8 @@ simulatorDomain = record { scheme = ThreePass }
 -- "All else is formed as on the card."
 unfoldable pub simulatedCommitments : List ℕ → List ℕ → ℕ → List ℕ → List ℕ
 simulatedCommitments b v unanswered lent =
-    threeCommitments (commitmentsThree simulatorDomain (nOf b) (mOf b) (vectorsIn b unanswered v lent) (lentBehind (nOf b) (mOf b) lent .rhos))
+    threeCommitments (commitmentsThree simulatorDomain (nOf b) (mOf b) (lentVectors b unanswered v lent) (lentBehind (nOf b) (mOf b) lent .rhos))
 
 unfoldable pub simulatedReply : List ℕ → List ℕ → ℕ → ℕ → List ℕ → List ℕ
 simulatedReply b v unanswered challenge lent =
-    replyThreeBytes (nOf b) (mOf b) (replyThree (vectorsIn b unanswered v lent) (lentBehind (nOf b) (mOf b) lent .rhos) challenge)
+    replyThreeBytes (nOf b) (mOf b) (replyThree (lentVectors b unanswered v lent) (lentBehind (nOf b) (mOf b) lent .rhos) challenge)

@@ -90,7 +90,7 @@ fn simulator_domain() -> Domain
 }
 
 // The simulator's vectors, from s' and what is lent behind it.
-fn lent_vectors<'a>(
+fn vectors_from<'a>(
     system: &'a [u8],
     unanswered: u8,
     v: &'a [u8],
@@ -141,7 +141,7 @@ pub fn simulate<'a>(
     let m = byte_at(system, 2);
     let l = lent_behind(lent, n, m);
     let rhos = l.rhos;
-    let w = lent_vectors(system, unanswered, v, lent, l);
+    let w = vectors_from(system, unanswered, v, lent, l);
     let d = simulator_domain();
     write_three_commitments(commitments_three(d, n, m, w, rhos), commitments);
     write_reply_three(reply_three(w, rhos, challenge), n, m, reply);

@@ -6,7 +6,7 @@ use native.Mathlib.Omega.{arith}
 use Rattle.refusal.specs.Refusal.{_orElse_}
 use Rattle.refusal.proofs.Refusals.{orElse-assoc}
 use Rattle.scheme.specs.declared.Scheme.{Scheme}
-use Rattle.record_form.proofs.Chains.{ends, goes-on}
+use Rattle.refusal.proofs.Chains.{ends-here, goes-on}
 use Rattle.system.specs.System.{systemRefusal}
 use Rattle.transcript.specs.Transcript.{fitRefusal}
 use Rattle.comparable.specs.Comparable.{auditedRefusal, differenceRefusal, ofFourth, comparableRefusal}
@@ -32,10 +32,10 @@ comparable-refusal-spec =
     (tie.spec
     (λ c κs. search needs)
     (λ c.
-    ends _ _ _ (c .before .check .ensures) (λ none. omega (arith, c .if1 .taken, none)) ∙ grouped _ _ _ _ _ _)
+    ends-here _ _ _ (c .before .check .ensures) (λ none. omega (arith, c .if1 .taken, none)) ∙ grouped _ _ _ _ _ _)
     (λ c κs. search needs)
     (λ c.
-    goes-on _ _ _ _ (c .before .before .before .check .ensures) (omega (arith, c .before .before .if1 .left)) (ends _ _ _ (c .before .readings-refusal .ensures) (c .if2 .taken)) ∙ grouped _ _ _ _ _ _)
+    goes-on _ _ _ _ (c .before .before .before .check .ensures) (omega (arith, c .before .before .if1 .left)) (ends-here _ _ _ (c .before .readings-refusal .ensures) (c .if2 .taken)) ∙ grouped _ _ _ _ _ _)
     (λ c κs. search needs)
     (λ c.
     goes-on _ _ _ _ (c .before .before .before .before .check .ensures) (omega (arith, c .before .before .before .if1 .left))

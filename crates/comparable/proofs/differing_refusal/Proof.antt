@@ -1,5 +1,5 @@
 -- The sizes, then the records one behind the other, left at the first that is refused. Assumes nothing.
-use Rattle.record_form.proofs.Chains.{ends, goes-on}
+use Rattle.refusal.proofs.Chains.{ends-here, goes-on}
 use borrow.Author.Needs.{needs}
 use Rattle.comparable.proofs.differing_refusal.Statement.{statement}
 use Rattle.comparable.proofs.differing_refusal.Tie as tie
@@ -10,14 +10,14 @@ differing-refusal-spec =
     (tie.spec
     (λ c κs. search needs)
     (λ c.
-    ends _ _ _ (c .before .fit-refusal .ensures) (c .if1 .taken))
+    ends-here _ _ _ (c .before .fit-refusal .ensures) (c .if1 .taken))
     (λ c κs. search needs)
     (λ c.
-    goes-on _ _ _ _ (c .before .before .before .fit-refusal .ensures) (c .before .before .if1 .left) (ends _ _ _ (c .before .difference-refusal .ensures) (c .if2 .taken)))
+    goes-on _ _ _ _ (c .before .before .before .fit-refusal .ensures) (c .before .before .if1 .left) (ends-here _ _ _ (c .before .difference-refusal .ensures) (c .if2 .taken)))
     (λ c κs. search needs)
     (λ c.
     goes-on _ _ _ _ (c .before .before .before .before .before .fit-refusal .ensures) (c .before .before .before .before .if1 .left)
-    (goes-on _ _ _ _ (c .before .before .before .difference-refusal .ensures) (c .before .before .if2 .left) (ends _ _ _ (c .before .difference-refusal2 .ensures) (c .if3 .taken))))
+    (goes-on _ _ _ _ (c .before .before .before .difference-refusal .ensures) (c .before .before .if2 .left) (ends-here _ _ _ (c .before .difference-refusal2 .ensures) (c .if3 .taken))))
     (λ c κs. search needs)
     (λ c.
     goes-on _ _ _ _ (c .before .before .before .before .before .before .fit-refusal .ensures) (c .before .before .before .before .before .if1 .left)

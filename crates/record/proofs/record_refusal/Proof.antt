@@ -12,7 +12,7 @@ use Rattle.scheme.specs.Scheme.{isScheme}
 use Rattle.record_form.specs.declared.form.Check.the-variants.{FileOrder}
 use Rattle.record_form.specs.Record.{recordLength, table, headerIn, fieldsIn}
 use Rattle.record_form.specs.Form.{areValues, exchangesRefusal}
-use Rattle.record_form.proofs.Chains.{ends, goes-on}
+use Rattle.refusal.proofs.Chains.{ends-here, goes-on}
 use Rattle.record.specs.Reader.{recordRefusal}
 use borrow.Author.Needs.{needs}
 use Rattle.record.proofs.record_refusal.Statement.{statement}
@@ -52,7 +52,7 @@ record-refusal-spec =
     (λ c κs. search needs)
     (λ c κs. search needs)
     (λ c.
-    ends _ _ _ (simp (c .before .first3 .ensures, c .before .before .first2 .ensures, c .before .before .before .unless4 .ensures, c .before .before .before .before .are-values .ensures, c .before .before .before .before .before .unless3 .ensures, c .before .before .before .before .before .before .is-scheme .ensures, c .before .before .before .before .before .before .before .byte-at2 .ensures, c .before .before .before .before .before .before .before .before .first .ensures, c .before .before .before .before .before .before .before .before .before .unless2 .ensures, c .before .before .before .before .before .before .before .before .before .before .byte-at .ensures, c .before .before .before .before .before .before .before .before .before .before .before .unless .ensures, c .before .before .before .before .before .before .before .before .before .before .before .before .header-of .ensures)) (c .if1 .taken) ∙ grouped _)
+    ends-here _ _ _ (simp (c .before .first3 .ensures, c .before .before .first2 .ensures, c .before .before .before .unless4 .ensures, c .before .before .before .before .are-values .ensures, c .before .before .before .before .before .unless3 .ensures, c .before .before .before .before .before .before .is-scheme .ensures, c .before .before .before .before .before .before .before .byte-at2 .ensures, c .before .before .before .before .before .before .before .before .first .ensures, c .before .before .before .before .before .before .before .before .before .unless2 .ensures, c .before .before .before .before .before .before .before .before .before .before .byte-at .ensures, c .before .before .before .before .before .before .before .before .before .before .before .unless .ensures, c .before .before .before .before .before .before .before .before .before .before .before .before .header-of .ensures)) (c .if1 .taken) ∙ grouped _)
     (λ c κs. search needs)
     (λ c κs. search needs)
     (λ c κs. search needs)
@@ -60,7 +60,7 @@ record-refusal-spec =
     (λ c κs. search needs)
     (λ c.
     goes-on _ _ _ _ (simp (c .before .before .before .before .before .before .before .first3 .ensures, c .before .before .before .before .before .before .before .before .first2 .ensures, c .before .before .before .before .before .before .before .before .before .unless4 .ensures, c .before .before .before .before .before .before .before .before .before .before .are-values .ensures, c .before .before .before .before .before .before .before .before .before .before .before .unless3 .ensures, c .before .before .before .before .before .before .before .before .before .before .before .before .is-scheme .ensures, c .before .before .before .before .before .before .before .before .before .before .before .before .before .byte-at2 .ensures, c .before .before .before .before .before .before .before .before .before .before .before .before .before .before .first .ensures, c .before .before .before .before .before .before .before .before .before .before .before .before .before .before .before .unless2 .ensures, c .before .before .before .before .before .before .before .before .before .before .before .before .before .before .before .before .byte-at .ensures, c .before .before .before .before .before .before .before .before .before .before .before .before .before .before .before .before .before .unless .ensures, c .before .before .before .before .before .before .before .before .before .before .before .before .before .before .before .before .before .before .header-of .ensures)) (c .before .before .before .before .before .before .if1 .left)
-    (ends _ _ _ (simp (c .before .first4 .ensures, c .before .before .unless6 .ensures, c .before .before .before .record-length .ensures .0, c .before .before .before .before .unless5 .ensures, c .before .before .before .before .before .table-matches .ensures, c .before .before .before .before .before .before .before .before .before .before .before .before .before .before .before .before .before .before .header-of .ensures)) (c .if2 .taken)) ∙
+    (ends-here _ _ _ (simp (c .before .first4 .ensures, c .before .before .unless6 .ensures, c .before .before .before .record-length .ensures .0, c .before .before .before .before .unless5 .ensures, c .before .before .before .before .before .table-matches .ensures, c .before .before .before .before .before .before .before .before .before .before .before .before .before .before .before .before .before .before .header-of .ensures)) (c .if2 .taken)) ∙
     grouped _)
     (λ c κs. search needs)
     (λ c κs. search needs)
@@ -69,7 +69,7 @@ record-refusal-spec =
     (λ c.
     goes-on _ _ _ _ (simp (c .before .before .before .before .before .before .before .before .before .before .before .before .first3 .ensures, c .before .before .before .before .before .before .before .before .before .before .before .before .before .first2 .ensures, c .before .before .before .before .before .before .before .before .before .before .before .before .before .before .unless4 .ensures, c .before .before .before .before .before .before .before .before .before .before .before .before .before .before .before .are-values .ensures, c .before .before .before .before .before .before .before .before .before .before .before .before .before .before .before .before .unless3 .ensures, c .before .before .before .before .before .before .before .before .before .before .before .before .before .before .before .before .before .is-scheme .ensures, c .before .before .before .before .before .before .before .before .before .before .before .before .before .before .before .before .before .before .byte-at2 .ensures, c .before .before .before .before .before .before .before .before .before .before .before .before .before .before .before .before .before .before .before .first .ensures, c .before .before .before .before .before .before .before .before .before .before .before .before .before .before .before .before .before .before .before .before .unless2 .ensures, c .before .before .before .before .before .before .before .before .before .before .before .before .before .before .before .before .before .before .before .before .before .byte-at .ensures, c .before .before .before .before .before .before .before .before .before .before .before .before .before .before .before .before .before .before .before .before .before .before .unless .ensures, c .before .before .before .before .before .before .before .before .before .before .before .before .before .before .before .before .before .before .before .before .before .before .before .header-of .ensures)) (c .before .before .before .before .before .before .before .before .before .before .before .if1 .left)
     (goes-on _ _ _ _ (simp (c .before .before .before .before .before .before .first4 .ensures, c .before .before .before .before .before .before .before .unless6 .ensures, c .before .before .before .before .before .before .before .before .record-length .ensures .0, c .before .before .before .before .before .before .before .before .before .unless5 .ensures, c .before .before .before .before .before .before .before .before .before .before .table-matches .ensures, c .before .before .before .before .before .before .before .before .before .before .before .before .before .before .before .before .before .before .before .before .before .before .before .header-of .ensures)) (c .before .before .before .before .before .if2 .left)
-    (ends _ _ _ (simp (c .before .unless7 .ensures, c .before .before .all-below .ensures, c .before .before .before .body-of .ensures, c .before .before .before .before .laid-out .ensures .0, c .before .before .before .before .before .before .before .before .before .before .before .before .before .before .before .before .before .before .before .before .before .before .before .header-of .ensures)) (c .if3 .taken))) ∙
+    (ends-here _ _ _ (simp (c .before .unless7 .ensures, c .before .before .all-below .ensures, c .before .before .before .body-of .ensures, c .before .before .before .before .laid-out .ensures .0, c .before .before .before .before .before .before .before .before .before .before .before .before .before .before .before .before .before .before .before .before .before .before .before .header-of .ensures)) (c .if3 .taken))) ∙
     grouped _)
     (λ c κs. search needs)
     (λ c κs. search needs)

@@ -10,7 +10,7 @@ use Rattle.scheme.specs.Scheme.{isScheme}
 use Rattle.record_form.specs.declared.form.Check.the-variants.{Elements, Challenges}
 use Rattle.record_form.specs.Record.{Fields, commitmentsBody, exchangesBody, layoutOf, recordLength}
 use Rattle.record_form.specs.Form.{areValues, exchangesRefusal}
-use Rattle.record_form.proofs.Chains.{ends, goes-on}
+use Rattle.refusal.proofs.Chains.{ends-here, goes-on}
 use Rattle.record_writer.specs.Writer.{writeRefusal}
 use borrow.Author.Needs.{needs}
 use Rattle.record_writer.proofs.write_refusal.Statement.{statement}
@@ -46,7 +46,7 @@ write-refusal-spec =
     (λ c κs. search needs)
     (λ c κs. search needs)
     (λ c.
-    ends _ _ _ (simp (c .before .first .ensures, c .before .before .unless2 .ensures, c .before .before .before .are-values .ensures, c .before .before .before .before .unless .ensures, c .before .before .before .before .before .is-scheme .ensures)) (c .if1 .taken) ∙ grouped _ _ _)
+    ends-here _ _ _ (simp (c .before .first .ensures, c .before .before .unless2 .ensures, c .before .before .before .are-values .ensures, c .before .before .before .before .unless .ensures, c .before .before .before .before .before .is-scheme .ensures)) (c .if1 .taken) ∙ grouped _ _ _)
     (λ c κs. search needs)
     (λ c κs. search needs)
     (λ c κs. search needs)
@@ -58,7 +58,7 @@ write-refusal-spec =
     (λ c κs. search needs)
     (λ c.
     goes-on _ _ _ _ (simp (c .before .before .before .before .before .before .before .before .before .before .before .before .before .before .first .ensures, c .before .before .before .before .before .before .before .before .before .before .before .before .before .before .before .unless2 .ensures, c .before .before .before .before .before .before .before .before .before .before .before .before .before .before .before .before .are-values .ensures, c .before .before .before .before .before .before .before .before .before .before .before .before .before .before .before .before .before .unless .ensures, c .before .before .before .before .before .before .before .before .before .before .before .before .before .before .before .before .before .before .is-scheme .ensures)) (c .before .before .before .before .before .before .before .before .before .before .before .before .before .if1 .left)
-    (ends _ _ _ (simp (c .before .first4 .ensures, c .before .before .unless6 .ensures, c .before .before .before .record-length .ensures .0, c .before .before .before .before .first3 .ensures, c .before .before .before .before .before .first2 .ensures, c .before .before .before .before .before .before .unless5 .ensures, c .before .before .before .before .before .before .before .before .unless4 .ensures, c .before .before .before .before .before .before .before .before .before .before .unless3 .ensures, c .before .before .before .before .before .before .before .before .before .before .before .before .laid-out .ensures .0)) (c .if2 .taken)) ∙
+    (ends-here _ _ _ (simp (c .before .first4 .ensures, c .before .before .unless6 .ensures, c .before .before .before .record-length .ensures .0, c .before .before .before .before .first3 .ensures, c .before .before .before .before .before .first2 .ensures, c .before .before .before .before .before .before .unless5 .ensures, c .before .before .before .before .before .before .before .before .unless4 .ensures, c .before .before .before .before .before .before .before .before .before .before .unless3 .ensures, c .before .before .before .before .before .before .before .before .before .before .before .before .laid-out .ensures .0)) (c .if2 .taken)) ∙
     grouped _ _ _)
     (λ c κs. search needs)
     (λ c κs. search needs)
@@ -67,7 +67,7 @@ write-refusal-spec =
     (λ c.
     goes-on _ _ _ _ (simp (c .before .before .before .before .before .before .before .before .before .before .before .before .before .before .before .before .before .before .before .first .ensures, c .before .before .before .before .before .before .before .before .before .before .before .before .before .before .before .before .before .before .before .before .unless2 .ensures, c .before .before .before .before .before .before .before .before .before .before .before .before .before .before .before .before .before .before .before .before .before .are-values .ensures, c .before .before .before .before .before .before .before .before .before .before .before .before .before .before .before .before .before .before .before .before .before .before .unless .ensures, c .before .before .before .before .before .before .before .before .before .before .before .before .before .before .before .before .before .before .before .before .before .before .before .is-scheme .ensures)) (c .before .before .before .before .before .before .before .before .before .before .before .before .before .before .before .before .before .before .if1 .left)
     (goes-on _ _ _ _ (simp (c .before .before .before .before .before .before .first4 .ensures, c .before .before .before .before .before .before .before .unless6 .ensures, c .before .before .before .before .before .before .before .before .record-length .ensures .0, c .before .before .before .before .before .before .before .before .before .first3 .ensures, c .before .before .before .before .before .before .before .before .before .before .first2 .ensures, c .before .before .before .before .before .before .before .before .before .before .before .unless5 .ensures, c .before .before .before .before .before .before .before .before .before .before .before .before .before .unless4 .ensures, c .before .before .before .before .before .before .before .before .before .before .before .before .before .before .before .unless3 .ensures, c .before .before .before .before .before .before .before .before .before .before .before .before .before .before .before .before .before .laid-out .ensures .0)) (c .before .before .before .before .before .if2 .left)
-    (ends _ _ _ (simp (c .before .first5 .ensures, c .before .before .exchanges-refusal .ensures, c .before .before .before .unless7 .ensures, c .before .before .before .before .all-below .ensures)) (c .if3 .taken))) ∙
+    (ends-here _ _ _ (simp (c .before .first5 .ensures, c .before .before .exchanges-refusal .ensures, c .before .before .before .unless7 .ensures, c .before .before .before .before .all-below .ensures)) (c .if3 .taken))) ∙
     grouped _ _ _)
     (λ c κs. search needs)
     (λ c.

@@ -1,5 +1,5 @@
 -- The length first, then what is judged. Assumes nothing.
-use Rattle.record_form.proofs.Chains.{ends, goes-on}
+use Rattle.refusal.proofs.Chains.{ends-here, goes-on}
 use Rattle.reporting.specs.Report.{reportRefusal}
 use borrow.Author.Needs.{needs}
 use Rattle.reporting.proofs.report_refusal.Statement.{statement}
@@ -11,7 +11,7 @@ report-refusal-spec =
     tie.close
     (tie.spec
     (λ c κs. search needs)
-    (λ c. ends _ _ _ (c .before .unless .ensures) (c .if1 .taken))
+    (λ c. ends-here _ _ _ (c .before .unless .ensures) (c .if1 .taken))
     (λ c κs. search needs)
     (λ c κs. search needs)
     (λ c κs. search needs)

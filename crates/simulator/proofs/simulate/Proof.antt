@@ -4,7 +4,7 @@ use lib.ListN.{length}
 use Rattle.refusal.specs.Refusal.{kept}
 use Rattle.refusal.proofs.Refusals.{kept-refused}
 use Rattle.system.proofs.SystemLayout.{accepted}
-use Rattle.simulator.specs.Simulator.{simulateRefusal, vectorsIn, simulatedCommitments, simulatedReply}
+use Rattle.simulator.specs.Simulator.{simulateRefusal, lentVectors, simulatedCommitments, simulatedReply}
 use Rattle.simulator.proofs.NotRefused.{taken}
 use borrow.Author.Needs.{needs}
 use Rattle.simulator.proofs.simulate.Statement.{statement}
@@ -17,7 +17,7 @@ none : (c : tie.Else1) →
 none c = sym (c .before .simulate-refusal .ensures) ∙ c .if1 .left
 
 pub simulate-spec : {M : Type 1} → statement M
-unfolding simulatedCommitments simulatedReply vectorsIn kept
+unfolding simulatedCommitments simulatedReply lentVectors kept
 simulate-spec =
     tie.close
     (tie.spec
@@ -41,6 +41,6 @@ simulate-spec =
     (λ c. search needs)
     (λ c. (
       sym (none (c .before .before .before .before .before .before .before .before .before .before .before .before .before .before .before .before)),
-      simp (c .before .before .before .before .before .before .before .write-three-commitments .ensures, c .before .before .before .before .before .before .before .before .before .commitments-three .ensures, c .before .before .before .before .before .before .before .before .before .before .simulator-domain .ensures, c .before .before .before .before .before .before .before .before .before .before .before .lent-vectors .ensures, c .before .before .before .before .before .before .before .before .before .before .before .before .before .lent-behind .ensures, c .before .before .before .before .before .before .before .before .before .before .before .before .before .before .byte-at2 .ensures, c .before .before .before .before .before .before .before .before .before .before .before .before .before .before .before .byte-at .ensures),
-      simp (c .before .before .write-reply-three .ensures, c .before .before .before .before .reply-three .ensures, c .before .before .before .before .before .before .before .before .before .before .before .lent-vectors .ensures, c .before .before .before .before .before .before .before .before .before .before .before .before .before .lent-behind .ensures, c .before .before .before .before .before .before .before .before .before .before .before .before .before .before .byte-at2 .ensures, c .before .before .before .before .before .before .before .before .before .before .before .before .before .before .before .byte-at .ensures),
+      simp (c .before .before .before .before .before .before .before .write-three-commitments .ensures, c .before .before .before .before .before .before .before .before .before .commitments-three .ensures, c .before .before .before .before .before .before .before .before .before .before .simulator-domain .ensures, c .before .before .before .before .before .before .before .before .before .before .before .vectors-from .ensures, c .before .before .before .before .before .before .before .before .before .before .before .before .before .lent-behind .ensures, c .before .before .before .before .before .before .before .before .before .before .before .before .before .before .byte-at2 .ensures, c .before .before .before .before .before .before .before .before .before .before .before .before .before .before .before .byte-at .ensures),
+      simp (c .before .before .write-reply-three .ensures, c .before .before .before .before .reply-three .ensures, c .before .before .before .before .before .before .before .before .before .before .before .vectors-from .ensures, c .before .before .before .before .before .before .before .before .before .before .before .before .before .lent-behind .ensures, c .before .before .before .before .before .before .before .before .before .before .before .before .before .before .byte-at2 .ensures, c .before .before .before .before .before .before .before .before .before .before .before .before .before .before .before .byte-at .ensures),
     )))

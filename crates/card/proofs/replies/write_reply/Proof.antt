@@ -5,7 +5,7 @@ use Rattle.system.proofs.SystemLayout.{sizes}
 use Rattle.scheme.specs.declared.Scheme.{Scheme}
 use Rattle.scheme.specs.declared.Scheme.the-variants.{ThreePass, FivePass}
 use Rattle.scheme.specs.Scheme.{vectorsLength, rhosLength, replyLength}
-use Rattle.card_state.specs.Card.{replyOf, sentReply}
+use Rattle.card_state.specs.Card.{formedReply, sentReply}
 use borrow.Author.Needs.{needs}
 use Rattle.card.proofs.replies.write_reply.Statement.{statement}
 use Rattle.card.proofs.replies.write_reply.Tie as tie
@@ -18,7 +18,7 @@ unfolding replyLength vectorsLength
 five-reply scheme n m five = rw five
 
 pub write-reply-spec : {M : Type 1} → statement M
-unfolding sentReply replyOf
+unfolding sentReply formedReply
 write-reply-spec =
     tie.close
     (tie.spec

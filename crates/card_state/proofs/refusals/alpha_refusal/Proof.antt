@@ -1,5 +1,5 @@
 -- The chain ends at its first refusal. Assumes nothing.
-use Rattle.session_state.proofs.States.{ends-here, goes-on}
+use Rattle.refusal.proofs.Chains.{ends-here, goes-on}
 use Rattle.card_state.specs.Card.{alphaRefusal}
 use borrow.Author.Needs.{needs}
 use Rattle.card_state.proofs.refusals.alpha_refusal.Statement.{statement}

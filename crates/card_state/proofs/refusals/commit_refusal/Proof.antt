@@ -1,6 +1,6 @@
 -- The chain ends at its first refusal. Assumes nothing.
 use Rattle.refusal.proofs.Refusals.{orElse-assoc}
-use Rattle.session_state.proofs.States.{ends-here, goes-on}
+use Rattle.refusal.proofs.Chains.{ends-here, goes-on}
 use Rattle.card_state.specs.Card.{commitRefusal}
 use borrow.Author.Needs.{needs}
 use Rattle.card_state.proofs.refusals.commit_refusal.Statement.{statement}

@@ -1,12 +1,11 @@
 -- The callees' answers, put together. Assumes nothing.
-use Rattle.slices.specs.Slices.{zeros}
 use Rattle.carrier_state.specs.Carrier.{openedCarrier}
 use borrow.Author.Needs.{needs}
 use Rattle.carrier.proofs.opening.opened_carrier.Statement.{statement}
 use Rattle.carrier.proofs.opening.opened_carrier.Tie as tie
 
 pub opened-carrier-spec : {M : Type 1} → statement M
-unfolding openedCarrier zeros
+unfolding openedCarrier
 opened-carrier-spec =
     tie.close
     (tie.spec
@@ -17,4 +16,5 @@ opened-carrier-spec =
     (λ c κs. search needs)
     (λ c. search needs)
     (λ c κs. search needs)
-    (λ c. simp (c .held-commitments .ensures, c .before .before .from-slice .ensures, c .before .before .before .byte-at3 .ensures, c .before .before .before .before .byte-at2 .ensures, c .before .before .before .before .before .byte-at .ensures, c .before .before .before .before .before .before .scheme-of .ensures)))
+    (λ c κs. search needs)
+    (λ c. simp (c .no-turn .ensures, c .before .held-commitments .ensures, c .before .before .before .from-slice .ensures, c .before .before .before .before .byte-at3 .ensures, c .before .before .before .before .before .byte-at2 .ensures, c .before .before .before .before .before .before .byte-at .ensures, c .before .before .before .before .before .before .before .scheme-of .ensures)))

@@ -1,5 +1,5 @@
 -- The chain ends at its first refusal. Assumes nothing.
-use Rattle.session_state.proofs.States.{ends-here, goes-on}
+use Rattle.refusal.proofs.Chains.{ends-here, goes-on}
 use Rattle.carrier_state.specs.Carrier.{replyRefusal}
 use borrow.Author.Needs.{needs}
 use Rattle.carrier_state.proofs.refusals.reply_refusal.Statement.{statement}

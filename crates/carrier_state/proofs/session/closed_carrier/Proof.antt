@@ -12,4 +12,5 @@ closed-carrier-spec =
     (tie.spec
     (λ c. search needs)
     (λ c κs. search needs)
-    (λ c. simp (c .held-commitments .ensures)))
+    (λ c κs. search needs)
+    (λ c. simp (c .no-turn .ensures, c .before .held-commitments .ensures)))

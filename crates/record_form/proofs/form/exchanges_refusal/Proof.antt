@@ -10,7 +10,7 @@ use Rattle.record_form.specs.declared.layout.Header.{Header}
 use Rattle.record_form.specs.declared.form.Check.{Check}
 use Rattle.record_form.specs.Record.{exchangeLength, exchangeOf}
 use Rattle.record_form.specs.Form.{exchangeRefusal, exchangesRefusal}
-use Rattle.record_form.proofs.Chains.{none-so-far, first-here}
+use Rattle.refusal.proofs.Chains.{none-so-far, first-here}
 use borrow.Author.Needs.{needs}
 use Rattle.record_form.proofs.form.exchanges_refusal.Statement.{statement}
 use Rattle.record_form.proofs.form.exchanges_refusal.Tie as tie

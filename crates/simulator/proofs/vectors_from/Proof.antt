@@ -1,12 +1,12 @@
 -- The callees' answers, put together. Assumes nothing.
 use Rattle.simulator.specs.Simulator.{vectorsFrom}
 use borrow.Author.Needs.{needs}
-use Rattle.simulator.proofs.lent_vectors.Statement.{statement}
-use Rattle.simulator.proofs.lent_vectors.Tie as tie
+use Rattle.simulator.proofs.vectors_from.Statement.{statement}
+use Rattle.simulator.proofs.vectors_from.Tie as tie
 
-pub lent-vectors-spec : {M : Type 1} → statement M
+pub vectors-from-spec : {M : Type 1} → statement M
 unfolding vectorsFrom
-lent-vectors-spec =
+vectors-from-spec =
     tie.close
     (tie.spec
     (λ c κs. search needs)

@@ -3,14 +3,14 @@ use Prim.Native.Nat.{ℕ, zero, suc, _+_, _<_}
 use mathlib.Core.Path.{_≡_, refl, sym, _∙_}
 use mathlib.Core.Logic.{⊎-elim}
 use native.Mathlib.Nat.{not-suc-le-zero, eq-or-lt-of-le, le-of-suc-le-suc}
 use Rattle.refusal.specs.Refusal.{_orElse_, firstOf}
 use Rattle.refusal.proofs.Refusals.{both-zero, firstOf-step, first-decides, later-decides}
 
--- here
-pub ends : (a rest x : ℕ) → x ≡ a → (x ≡ 0 → ⊥) → x ≡ (a orElse rest)
-ends a rest x is some = is ∙ sym (first-decides a rest (λ none. some (is ∙ none)))
+-- the first refuses
+pub ends-here : (a rest x : ℕ) → x ≡ a → (x ≡ 0 → ⊥) → x ≡ (a orElse rest)
+ends-here a rest x is some = is ∙ sym (first-decides a rest (λ none. some (is ∙ none)))
 
--- later
+-- it does not, and the rest decides
 pub goes-on : (a rest x y : ℕ) → x ≡ a → x ≡ 0 → y ≡ rest → y ≡ (a orElse rest)
 goes-on a rest x y is zeroed later = later ∙ sym (later-decides a rest (sym is ∙ zeroed))
 
@@ -31,4 +31,4 @@ first-here refusal (suc n) i x none is some below =
     last same = sym (later-decides (firstOf n refusal) (refusal n) (rw (sym same) none) ∙ rw (sym same) (sym is))
 
     earlier : x ≡ firstOf n refusal → x ≡ (firstOf n refusal orElse refusal n)
-    earlier found = ends (firstOf n refusal) (refusal n) x found some
+    earlier found = ends-here (firstOf n refusal) (refusal n) x found some
