@@ -36,19 +36,22 @@ fn audited_refusal(scheme: Scheme, bytes: &[u8]) -> u8
     unless(byte_of(of_record) == byte_of(scheme), 1)
 }
 
-// 7 where two records differ in the header, the key or a commitment.
+// 7 where two records differ in the header, the key or a commitment; it ends at the first difference.
 fn difference_refusal<'a>(a: &'a [u8], b: &'a [u8]) -> u8
     ensures { λ r. ⌜ r ≡ differenceRefusal (now (a .entry)) (now (b .entry)) ⌝ }
 {
+    let header = unless(equal(part(a, 0, 6), part(b, 0, 6)), 7);
+    if header != 0 {
+        return header;
+    }
     let of_a = laid_out(header_of(a));
     let of_b = laid_out(header_of(b));
-    let header = equal(part(a, 0, 6), part(b, 0, 6));
-    let key = equal(body_of(a, of_a.key), body_of(b, of_b.key));
+    let key = unless(equal(body_of(a, of_a.key), body_of(b, of_b.key)), 7);
+    if key != 0 {
+        return key;
+    }
     let commitments = equal(body_of(a, of_a.commitments), body_of(b, of_b.commitments));
-    first(
-        unless(header, 7),
-        first(unless(key, 7), unless(commitments, 7)),
-    )
+    unless(commitments, 7)
 }
 
 // Of the fourth record, which scheme 3 has not.

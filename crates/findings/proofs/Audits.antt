@@ -10,7 +10,7 @@ use Rattle.slices.proofs.Booleans.{either}
 use Rattle.system.specs.System.{F, systemRefusal}
 use Rattle.scheme.specs.declared.Scheme.{Scheme}
 use Rattle.scheme.specs.declared.Scheme.the-variants.{ThreePass, FivePass}
-use Rattle.scheme.specs.Scheme.{commitmentCount, commitmentsLength}
+use Rattle.scheme.specs.Scheme.{commitmentCount}
 use Rattle.record_form.specs.declared.layout.Header.{Header}
 use Rattle.record_form.specs.Record.{headerIn}
 use Rattle.transcript.specs.Transcript.{domainIn, keyVector, roundChallenge}
@@ -25,7 +25,7 @@ use Rattle.findings.proofs.Comparing.{auditable, readable, alike, fitti
 use Rattle.findings.proofs.Rejecting.{three-walk, five-walk}
 use Rattle.findings.proofs.FullSets.{answering-among, alone, answers, AnsweredAll, answered-all, three-full, full-three, five-full, full-five, set-three, set-five}
 use Rattle.findings.proofs.Strings.{Opened, opens-other, opened-three, opened-five}
-use Rattle.findings.proofs.Elements.{same-domain}
+use Rattle.findings.proofs.Elements.{domainFor, own-domain}
 use Rattle.findings.proofs.Secrets.{three-secret, five-secret}
 use Rattle.findings.proofs.Search.{Sound, AllSound, Laws, pair-agrees, audit-claim}
 
@@ -116,12 +116,12 @@ module _ (system a b c : List ℕ) where
   answering-sound s r j = among-sound s _ (answering-among a b c r j)
 
   answering-opened : AllSound (threePass system a b c) → (r k j : ℕ) → FullThree a b c r → k < 3 → j < 3 → (j ≡ k → ⊥) →
-      Opened (domainIn a) system (answering a b c r j) r k (openingIn system (answering a b c r j) r k)
+      Opened (domainFor ThreePass) system (answering a b c r j) r k (openingIn system (answering a b c r j) r k)
   unfolding threePass
   answering-opened s r k j full hk hj other =
       let has = asked a b c r full j hj in
       let k-is = answering-sound s r j .auditable in
-      opened-three (domainIn a) system (answering a b c r j) r k (same-domain ThreePass system a _ k-is) (k-is .for-scheme) (rw has hj) hk (λ e. other (sym has ∙ e))
+      opened-three (domainFor ThreePass) system (answering a b c r j) r k (own-domain ThreePass system a _ k-is) (k-is .for-scheme) (rw has hj) hk (λ e. other (sym has ∙ e))
 
   -- no other two records of a full set open commitment k
   only-three : AllSound (threePass system a b c) → (r k : ℕ) → FullThree a b c r → (x y : List ℕ) (p : Compared (threePass system a b c) r k x y) →
@@ -137,7 +137,7 @@ module _ (system a b c : List ℕ) where
 
   -- whatever stands in the place of a fourth record
   three-laws : (d : List ℕ) → Laws (threePass system a b c) b c d
-  unfolding threePass ofFourth leftRecord rightRecord lowerChallenge higherChallenge commitmentCount commitmentsLength
+  unfolding threePass ofFourth leftRecord rightRecord lowerChallenge higherChallenge commitmentCount
   three-laws d =
       record {
         passed-tells = λ k.
@@ -168,7 +168,6 @@ module _ (system a b c : List ℕ) where
         right-sound = λ s r k. answering-sound s r (higherChallenge k);
         left-opened = λ s r k full h. let o = other-two k h in answering-opened s r k (lowerChallenge k) full h (o .low) (o .low-other);
         right-opened = λ s r k full h. let o = other-two k h in answering-opened s r k (higherChallenge k) full h (o .high) (o .high-other);
-        numbers = λ k is. omega (arith, is);
         only-pair = only-three;
       }
     where
@@ -178,8 +177,8 @@ module _ (system a b c : List ℕ) where
           let k : (j : ℕ) → Auditable ThreePass system a (answering a b c r j) = λ j. answering-sound s r j .auditable in
           three-secret system a (answering a b c r 0) (answering a b c r 1) (answering a b c r 2) r (s .good) (k 0) (k 1) (k 2) (within ThreePass system a _ r (k 0) h)
           (asked a b c r full 0 (omega arith)) (asked a b c r full 1 (omega arith)) (asked a b c r full 2 (omega arith))
-          (pair-agrees ThreePass system a b c d r 0 (same 0 (omega arith))) (pair-agrees ThreePass system a b c d r 1 (same 1 (omega arith)))
-          (pair-agrees ThreePass system a b c d r 2 (same 2 (omega arith)))
+          (pair-agrees (domainIn a) ThreePass system a b c d r 0 refl (same 0 (omega arith))) (pair-agrees (domainIn a) ThreePass system a b c d r 1 refl (same 1 (omega arith)))
+          (pair-agrees (domainIn a) ThreePass system a b c d r 2 refl (same 2 (omega arith)))
 
   -- the audit of three records of scheme 3
   pub audit-three-claim : Claim (threePass system a b c) (auditThree system a b c)
@@ -225,8 +224,8 @@ module _ (system a b c d : List ℕ) where
         of-d = record { auditable = p .3; accepted = q .3 };
       }
 
-  opens-by : (x : List ℕ) (r k : ℕ) → Sound FivePass system a x → roundChallenge x r ≡ k → k < 2 → Opened (domainIn a) system x r k (openingIn system x r k)
-  opens-by x r k s has h = opened-five (domainIn a) system x r k (same-domain FivePass system a x (s .auditable)) (s .auditable .for-scheme) has h
+  opens-by : (x : List ℕ) (r k : ℕ) → Sound FivePass system a x → roundChallenge x r ≡ k → k < 2 → Opened (domainFor FivePass) system x r k (openingIn system x r k)
+  opens-by x r k s has h = opened-five (domainFor FivePass) system x r k (own-domain FivePass system a x (s .auditable)) (s .auditable .for-scheme) has h
 
   left-sound-five : FourSound → (r k : ℕ) → Sound FivePass system a (leftRecord FivePass a b c r k)
   unfolding leftRecord openerFive
@@ -266,10 +265,10 @@ module _ (system a b c d : List ℕ) where
   secret-solves-five good s r h full same =
       ap₂ (λ (x y : List ℕ). F system (secretOf system x y r)) (a-answers r full) (b-answers r full) ∙
       five-secret system a b c d r good (s .of-a .auditable) (s .of-b .auditable) (s .of-c .auditable) (s .of-d .auditable) h (within FivePass system a c r (s .of-c .auditable) h) full
-      (pair-agrees FivePass system a b c d r 0 (same 0 (omega arith))) (pair-agrees FivePass system a b c d r 1 (same 1 (omega arith)))
+      (pair-agrees (domainIn a) FivePass system a b c d r 0 refl (same 0 (omega arith))) (pair-agrees (domainIn a) FivePass system a b c d r 1 refl (same 1 (omega arith)))
 
   five-laws : Laws (fivePass system a b c d) b c d
-  unfolding fivePass ofFourth commitmentCount commitmentsLength
+  unfolding fivePass ofFourth commitmentCount
   five-laws =
       record {
         passed-tells = λ k.
@@ -289,7 +288,6 @@ module _ (system a b c d : List ℕ) where
         right-sound = λ s r k. right-sound-five (four-sound s) r k;
         left-opened = λ s r k full h. opens-by _ r k (left-sound-five (four-sound s) r k) (left-asked r k full h) h;
         right-opened = λ s r k full h. opens-by _ r k (right-sound-five (four-sound s) r k) (right-asked r k full h) h;
-        numbers = λ k is. omega (arith, is);
         only-pair = λ s r k full x y p. only-five r k (p .left) (p .right) (p .order);
       }
 

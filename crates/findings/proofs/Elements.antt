@@ -17,6 +17,7 @@ use Rattle.protocol.specs.Rounds.{IsX, IsY, IsScalar}
 use Rattle.protocol.proofs.SystemMap.{is-vector}
 use Rattle.scheme.specs.declared.Scheme.{Scheme}
 use Rattle.scheme.specs.declared.Scheme.the-variants.{ThreePass, FivePass}
+use Rattle.commitment.specs.declared.Domain.{Domain}
 use Rattle.scheme.specs.Scheme.{turnLength, vectorsLength, rhosLength, replyLength}
 use Rattle.record_form.specs.declared.layout.Header.{Header}
 use Rattle.record_form.specs.Record.{ValidExchange, layoutOf, replyOf, vectorsOf, headerIn, fieldsIn}
@@ -48,11 +49,23 @@ valid-exchange b good r h = valid-fields b good .each-exchange r h
 
 -- ---- of an audited record
 
+-- the domain of a scheme
+abbrev pub domainFor : Scheme → Domain
+domainFor scheme = record { scheme = scheme }
+
 module _ (scheme : Scheme) (system a b : List ℕ) where
   -- what stands before ρ is the same in their strings
   pub same-domain : Auditable scheme system a b → domainIn a ≡ domainIn b
   unfolding domainIn
   same-domain k = λ i. record { scheme = k .same-header i .scheme }
+
+  -- and it is that of the scheme which the audit is for
+  pub own-domain : Auditable scheme system a b → domainFor scheme ≡ domainIn b
+  unfolding domainIn
+  own-domain k = λ i. record { scheme = sym (k .for-scheme) i }
+
+  pub first-domain : Auditable scheme system a b → domainFor scheme ≡ domainIn a
+  first-domain k = own-domain k ∙ sym (same-domain k)
 
   pub same-v : Auditable scheme system a b → keyVector b ≡ keyVector a
   unfolding keyVector

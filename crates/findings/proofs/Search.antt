@@ -29,11 +29,12 @@ use Rattle.full_set.specs.FullSet.{answering, fullSet, firstFull}
 use Rattle.clash.specs.Clash.{leftRecord, rightRecord, leftOpening, rightOpening, samePair, firstClash}
 use Rattle.auditing.specs.Audit.{secretAt, clashAt, findingAt, searchOf, auditOf}
 use Rattle.auditing.proofs.Outcomes.{finding-secret, finding-clash, search-none, search-found, audit-refused, audit-rejected, audit-searched}
-use Rattle.findings.specs.Findings.{Auditable, AllAccepted, Each, AuditCase, ShouldFind, RoundUsed, caseDomain, Compared, IsCommitment, AreCompared, Agree, firstVector}
+use Rattle.findings.specs.Findings.{Auditable, AllAccepted, Each, AuditCase, ShouldFind, RoundUsed, caseDomain, Compared, AreCompared, Agree, firstVector}
 use Rattle.findings.specs.Findings.{RightRefusal, Right, IsFinding, Claim}
 use Rattle.findings.proofs.Numbers.{nine, comparable-number}
 use Rattle.findings.proofs.Rejecting.{walk, all-accepted, none-rejected, first-rejected}
 use Rattle.findings.proofs.Strings.{Opened, opened-vectors}
+use Rattle.findings.proofs.Elements.{first-domain}
 
 -- a record that is audited, every round of it accepted
 pub record Sound (scheme : Scheme) (system a b : List ℕ) : Type 0 where
@@ -67,7 +68,6 @@ pub record Laws (t : AuditCase) (b c d : List ℕ) : Type 0 where
   pub right-opened : AllSound t → (r k : ℕ) → t .Full r → k < commitmentCount (t .scheme) →
       let right = rightRecord (t .scheme) (t .first) b c d r k in
       Opened (caseDomain t) (t .system) right r k (openingIn (t .system) right r k)
-  pub numbers : (k : ℕ) → IsCommitment t k → k < commitmentCount (t .scheme)
   pub only-pair : AllSound t → (r k : ℕ) → t .Full r → (x y : List ℕ) (p : Compared t r k x y) →
       (k < commitmentCount (t .scheme)) × (p .left ≡ leftRecord (t .scheme) (t .first) b c r k) × (p .right ≡ rightRecord (t .scheme) (t .first) b c d r k)
 
@@ -85,15 +85,18 @@ hashes-first scheme d system a b r k x s within o =
     let below : r < headerIn b .rounds = subst (λ (h : Header). r < h .rounds) (s .auditable .same-header) within in
     o .hashes (s .accepted r below) ∙ ap (λ (l : List ℕ). commitmentAt l k) (same-commitments scheme system a b r (s .auditable))
 
-vectors-differ : (d : Domain) (x y : List ℕ) → sameOpenings d x y ≡ false → vectorsIn d x ≡ vectorsIn d y → ⊥
+vectors-differ : (e d : Domain) (x y : List ℕ) → e ≡ d → sameOpenings d x y ≡ false → vectorsIn e x ≡ vectorsIn e y → ⊥
 unfolding sameOpenings
-vectors-differ d x y differ e = false≢true (sym differ ∙ same-by (vectorsIn d x) (vectorsIn d y) e)
+vectors-differ e d x y is differ agreed =
+    false≢true (sym differ ∙ same-by (vectorsIn d x) (vectorsIn d y) (subst (λ (f : Domain). vectorsIn f x ≡ vectorsIn f y) is agreed))
 
 -- the openings that are compared agree
-pub pair-agrees : (scheme : Scheme) (system a b c d : List ℕ) (r k : ℕ) → samePair scheme system a b c d r k ≡ true →
-    vectorsIn (domainIn a) (openingIn system (leftRecord scheme a b c r k) r k) ≡ vectorsIn (domainIn a) (openingIn system (rightRecord scheme a b c d r k) r k)
+pub pair-agrees : (e : Domain) (scheme : Scheme) (system a b c d : List ℕ) (r k : ℕ) → e ≡ domainIn a → samePair scheme system a b c d r k ≡ true →
+    vectorsIn e (openingIn system (leftRecord scheme a b c r k) r k) ≡ vectorsIn e (openingIn system (rightRecord scheme a b c d r k) r k)
 unfolding samePair sameOpenings leftOpening rightOpening
-pair-agrees scheme system a b c d r k e = same-true _ _ e
+pair-agrees e scheme system a b c d r k is same =
+    subst (λ (f : Domain). vectorsIn f (openingIn system (leftRecord scheme a b c r k) r k) ≡ vectorsIn f (openingIn system (rightRecord scheme a b c d r k) r k)) (sym is)
+    (same-true _ _ same)
 
 module _ (t : AuditCase) (b c d : List ℕ) (laws : Laws t b c d) where
   abbrev scheme : Scheme
@@ -134,6 +137,10 @@ module _ (t : AuditCase) (b c d : List ℕ) (laws : Laws t b c d) where
         first-full = λ j h earlier. false≢true (sym (used .before j h) ∙ laws .full-when j earlier);
       }
 
+  -- the domain of the scheme is that of the records
+  case-domain : AllSound t → caseDomain t ≡ domainIn a
+  case-domain s = first-domain scheme system a _ (laws .left-sound s 0 0 .auditable)
+
   -- commitment k of a round with the full set is opened in two ways
   pair-at : AllSound t → (r k : ℕ) → t .Full r → k < commitmentCount scheme → Compared t r k (leftOpening scheme system a b c r k) (rightOpening scheme system a b c d r k)
   unfolding leftOpening rightOpening
@@ -160,7 +167,7 @@ module _ (t : AuditCase) (b c d : List ℕ) (laws : Laws t b c d) where
   agree s r k full same x y p =
       let only = laws .only-pair s r k full x y p in
       opened-vectors (caseDomain t) system (p .left) _ r k x (p .left-vectors) (only .1) (p .left-opens) (p .left-has) (laws .left-opened s r k full (only .0)) ∙
-      pair-agrees scheme system a b c d r k (same (only .0)) ∙
+      pair-agrees (caseDomain t) scheme system a b c d r k (case-domain s) (same (only .0)) ∙
       sym (opened-vectors (caseDomain t) system (p .right) _ r k y (p .right-vectors) (only .2) (p .right-opens) (p .right-has) (laws .right-opened s r k full (only .0)))
 
   secret-right : AllSound t → (r : ℕ) → Used r → firstClash scheme system a b c d r ≡ 0 → Right t (secretAt system a b c r)
@@ -176,7 +183,7 @@ module _ (t : AuditCase) (b c d : List ℕ) (laws : Laws t b c d) where
         round = r;
         used = round;
         none-differs = λ k. agree s r k (round .full) (same k);
-        each-compared = λ k is. compared-at s r k (round .full) (laws .numbers k is);
+        each-compared = λ k is. compared-at s r k (round .full) is;
         zero-record = answering a b c r 0;
         one-record = answering a b c r 1;
         halves = laws .secret-halves r (round .full);
@@ -192,7 +199,7 @@ module _ (t : AuditCase) (b c d : List ℕ) (laws : Laws t b c d) where
         round = r;
         used = round;
         pair = pair-at s r k full (differs .within);
-        vectors-differ = vectors-differ _ _ _ (not-true _ (differs .holds));
+        vectors-differ = vectors-differ (caseDomain t) (domainIn a) _ _ (case-domain s) (not-true _ (differs .holds));
         first-pair = λ j h. agree s r j full (λ _. not-false _ (differs .before j h));
         earlier-compared = λ j h. compared-at s r j full (omega (arith, h, differs .within));
         left-hashes = hashes-first scheme _ system a _ r k _ (laws .left-sound s r k) (used .within) (laws .left-opened s r k full (differs .within));

@@ -1,6 +1,6 @@
 -- Demand 3's first half: when an audit has a finding, and what a finding is. Said of the records' bytes. What it shares with the audit are the layout of a
 -- record, by which its rounds are read, and the openings and the check of a round; how the audit searches, compares and answers is not used.
-use Prim.Native.Nat.{ℕ, _+_, _*_, _<_}
+use Prim.Native.Nat.{ℕ, _+_, _<_}
 use mathlib.Core.Path.{_≡_}
 use mathlib.Core.Bool.{true, false}
 use mathlib.Core.Logic.{_⊎_}
@@ -15,7 +15,7 @@ use Rattle.system.specs.System.{qOf, nOf, mOf, opsOf, F, WellFormedSystem}
 use Rattle.protocol.specs.Rounds.{IsX}
 use Rattle.scheme.specs.declared.Scheme.{Scheme}
 use Rattle.scheme.specs.declared.Scheme.the-variants.{ThreePass, FivePass}
-use Rattle.scheme.specs.Scheme.{commitmentsLength}
+use Rattle.scheme.specs.Scheme.{commitmentCount}
 use Rattle.round.specs.Openings.{Opening, stringOf, commitmentAt}
 use Rattle.record_form.specs.Record.{WellFormedRecord, headerIn, fieldsIn}
 use Rattle.transcript.specs.Transcript.{domainIn, keyVector, roundCommitments, roundTurn, roundChallenge, roundReply, roundOpenings, acceptedRound}
@@ -155,9 +155,9 @@ pub record RoundUsed (t : AuditCase) (r : ℕ) : Type 0 where
   pub full : t .Full r
   pub first-full : (j : ℕ) → j < r → t .Full j → ⊥
 
--- what stands before ρ in the strings of the records, all of one header
+-- what stands before ρ in the strings of the records: the scheme that the audit is for
 abbrev pub caseDomain : AuditCase → Domain
-caseDomain t = domainIn (t .first)
+caseDomain t = record { scheme = t .scheme }
 
 -- "Openings are compared by their vectors": the two openings of commitment k that are compared in round r, their strings x and y, and the vectors of each
 pub record Compared (t : AuditCase) (r k : ℕ) (x y : List ℕ) : Type 0 where
@@ -171,9 +171,9 @@ pub record Compared (t : AuditCase) (r k : ℕ) (x y : List ℕ) : Type 0 where
   pub left-has : HasVectors (caseDomain t) k x left-vectors
   pub right-has : HasVectors (caseDomain t) k y right-vectors
 
--- the round has a commitment k: "Commitments: 32 bytes each, 3 or 2 a round."
+-- the round has a commitment k: "3 or 2 a round"
 abbrev pub IsCommitment : AuditCase → ℕ → Type 0
-IsCommitment t k = k * 32 < commitmentsLength (t .scheme)
+IsCommitment t k = k < commitmentCount (t .scheme)
 
 -- two openings of commitment k are compared
 pub record AreCompared (t : AuditCase) (r k : ℕ) : Type 0 where

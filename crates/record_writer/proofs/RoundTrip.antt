@@ -1,18 +1,20 @@
 -- What is written is read back, and what is read is what the writer makes of it. Assumes nothing.
 use Prim.Native.Nat.{ℕ}
 use mathlib.Core.Path.{_≡_, refl, ap, _∙_}
-use mathlib.Core.Bool.{true}
+use mathlib.Core.Bool.{Bool, true, false}
 use mathlib.Core.List.{List}
+use native.Mathlib.Omega.{arith}
 use lib.ListN.{length}
 use Rattle.slices.specs.Slices.{_!_}
-use borrow.Author.Tests.{eq-eqb}
+use borrow.Author.Tests.{eq-eqb, eqb-true}
+use Rattle.refusal.specs.Refusal.{unless, _orElse_}
 use Rattle.refusal.proofs.Refusals.{first-zero, later-zero, test-holds, equal-holds, both-zero, unless-holds}
 use Rattle.field.specs.Vector.{allBelow}
-use Rattle.scheme.specs.Scheme.{isScheme}
+use Rattle.scheme.specs.Scheme.{byteOf, schemeOf, isScheme}
 use Rattle.field.proofs.Elements.{all-below-at, at-all-below}
 use Rattle.record_form.specs.declared.form.Check.the-variants.{Elements, Challenges}
 use Rattle.record.specs.declared.Reading.the-variants.{Good}
-use Rattle.record_form.specs.Record.{Fields, commitmentsBody, exchangesBody, layoutOf, recordLength, written, Valid, fieldsIn}
+use Rattle.record_form.specs.Record.{Fields, commitmentsBody, exchangesBody, layoutOf, recordLength, head, written, Valid, fieldsIn}
 use Rattle.record_form.specs.Form.{areValues}
 use Rattle.record.specs.Reader.{recordRefusal, readingOf}
 use Rattle.record_form.proofs.ValidForm.{values, values-true, header-values-of, valid-each, each-zero}
@@ -22,11 +24,21 @@ use Rattle.record_writer.specs.Writer.{writeRefusal}
 
 -- ---- not refused is valid
 
-pub record Taken (f : Fields) (out : ℕ) : Type 0 where
+pub record Taken (scheme : ℕ) (f : Fields) (out : ℕ) : Type 0 where
+  pub scheme-value : isScheme scheme ≡ true
   pub valid : Valid f
   pub exact : out ≡ recordLength (f .header)
 
-pub taken : (scheme : ℕ) (f : Fields) (out : ℕ) → writeRefusal scheme f out ≡ 0 → Taken f out
+-- a byte that is no scheme's is refused, whatever the rest is
+no-scheme : (scheme : ℕ) (f : Fields) (out : ℕ) → isScheme scheme ≡ false → writeRefusal scheme f out ≡ 1
+unfolding writeRefusal unless _orElse_
+no-scheme scheme f out is = simp is
+
+scheme-told : (scheme : ℕ) (f : Fields) (out : ℕ) → writeRefusal scheme f out ≡ 0 → (b : Bool) → isScheme scheme ≡ b → isScheme scheme ≡ true
+scheme-told scheme f out none true is = is
+scheme-told scheme f out none false is = absurd (omega (arith, none, no-scheme scheme f out is))
+
+pub taken : (scheme : ℕ) (f : Fields) (out : ℕ) → writeRefusal scheme f out ≡ 0 → Taken scheme f out
 unfolding writeRefusal
 taken scheme f out none =
     let h = f .header in
@@ -40,6 +52,7 @@ taken scheme f out none =
     let v = values h (test-holds (areValues h) 1 tt (first-zero _ _ after-scheme)) in
     let s = v .sizes-value in
     record {
+      scheme-value = scheme-told scheme f out none (isScheme scheme) refl;
       valid =
           record {
             q-value = s .is-field;
@@ -68,13 +81,18 @@ valid-taken scheme f is v =
     (both-zero _ _ (unless-holds (allBelow (h .q) (f .key)) 3 (at-all-below (h .q) (f .key) (v .key-elements)))
     (both-zero _ _ (each-zero Elements h (f .exchanges) (v .each-exchange)) (each-zero Challenges h (f .exchanges) (v .each-exchange)))))))))
 
--- ---- "Reading a written record gives its fields back"
+-- ---- "Reading a written record gives its fields back", and the byte that was given for the scheme
 
 pub read-written : (scheme : ℕ) (f : Fields) (out : ℕ) → writeRefusal scheme f out ≡ 0 →
-    (readingOf (written f) ≡ Good (layoutOf (f .header))) × (fieldsIn (written f) ≡ f)
+    (readingOf (written f) ≡ Good (layoutOf (f .header))) × (fieldsIn (written f) ≡ f) × (f .header .scheme ≡ schemeOf scheme → written f ! 1 ≡ scheme)
+unfolding written head isScheme
 read-written scheme f out none =
-    let v = taken scheme f out none .valid in
-    (reading-good (written f) (written-accepted f v) ∙ ap (λ h. Good (layoutOf h)) (header-written f), fields-written f v)
+    let t = taken scheme f out none in
+    let v = t .valid in (
+      reading-good (written f) (written-accepted f v) ∙ ap (λ h. Good (layoutOf h)) (header-written f),
+      fields-written f v,
+      λ is. ap byteOf is ∙ eqb-true (byteOf (schemeOf scheme)) scheme (t .scheme-value),
+    )
 
 -- ---- "every accepted record is the one the writer makes of its fields"
 
