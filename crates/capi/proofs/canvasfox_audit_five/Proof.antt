@@ -1,5 +1,5 @@
 -- What is refused before the records stays, else the audit's answer is laid out. Assumes nothing.
-use mathlib.Core.Path.{_≡_, sym, _∙_}
+use mathlib.Core.Path.{sym}
 use Rattle.refusal.proofs.Refusals.{kept-refused}
 use Rattle.capi.specs.Layouts.{auditRefusal}
 use Rattle.capi.proofs.Early.{decides, behind, room}

@@ -20,18 +20,18 @@ canvasfox-record-read-spec =
     tie.close
     (tie.spec
     (λ c κs. search needs)
-    (λ c. (ends _ _ _ (c .before .unless .ensures) (c .if1 .taken), sym (kept-refused _ _ _ (c .if1 .taken))))
+    (λ c. (ends _ _ _ (simp (c .before .unless .ensures)) (c .if1 .taken), sym (kept-refused _ _ _ (c .if1 .taken))))
     (λ c κs. search needs)
     (λ c κs. search needs)
     (λ c. (
-      goes-on _ _ _ _ (c .before .before .before .before .unless .ensures) (c .before .before .before .if1 .left) (simp (c .before .refusal-of .ensures, c .before .before .read .ensures .1)),
+      goes-on _ _ _ _ (simp (c .before .before .before .before .unless .ensures)) (c .before .before .before .if1 .left) (simp (c .before .refusal-of .ensures, c .before .before .read .ensures .1)),
       sym (kept-refused _ _ _ (c .if2 .taken)),
     ))
     (λ c κs. search needs)
     (λ c κs. fits _ _ (c .before .before .before .before .before .before .unless .ensures) (c .before .before .before .before .before .if1 .left))
     (λ c. search needs)
     (λ c. (
-      goes-on _ _ _ _ (c .before .before .before .before .before .before .before .before .before .unless .ensures) (c .before .before .before .before .before .before .before .before .if1 .left)
+      goes-on _ _ _ _ (simp (c .before .before .before .before .before .before .before .before .before .unless .ensures)) (c .before .before .before .before .before .before .before .before .if1 .left)
           (sym (c .before .before .before .before .before .if2 .left) ∙ simp (c .before .before .before .before .before .before .refusal-of .ensures, c .before .before .before .before .before .before .before .read .ensures .1)),
       simp (c .before .before .write-fields .ensures, c .before .before .before .before .header-of .ensures, kept-accepted),
     )))

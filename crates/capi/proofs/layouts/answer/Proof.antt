@@ -1,5 +1,5 @@
 -- One branch: what is refused stays, else the finding is written. Assumes nothing.
-use mathlib.Core.Path.{_≡_, refl, sym, _∙_}
+use mathlib.Core.Path.{refl, sym, _∙_}
 use native.Mathlib.Omega.{arith}
 use Rattle.slices.proofs.Parts.{placed-whole}
 use Rattle.refusal.proofs.Refusals.{kept-refused, kept-accepted}
