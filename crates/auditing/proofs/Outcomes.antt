@@ -8,7 +8,7 @@ use Rattle.scheme.specs.declared.Scheme.the-variants.{ThreePass}
 use Rattle.comparable.specs.declared.Rejection.{Rejection}
 use Rattle.comparable.specs.Comparable.{ofFourth, comparableRefusal, laterRejection, rejectionOf}
 use Rattle.full_set.specs.FullSet.{fullSet, firstFull}
-use Rattle.clash.specs.Clash.{leftRecord, rightRecord, leftOpening, rightOpening, samePair, firstClash}
+use Rattle.clash.specs.Clash.{leftRecord, rightRecord, leftString, rightString, samePair, firstClash}
 use Rattle.auditing.specs.Outcome.{refused}
 use Rattle.auditing.specs.Audit.{clashAt, secretAt, findingAt, searchOf, auditOf}
 
@@ -47,5 +47,5 @@ module _ (scheme : Scheme) (system a b c d : List ℕ) where
 
 -- three passes have no fourth record: what stands in its place is not looked at
 pub no-fourth : (system a b c d e : List ℕ) → auditOf ThreePass system a b c d ≡ auditOf ThreePass system a b c e
-unfolding auditOf comparableRefusal ofFourth rejectionOf laterRejection searchOf firstFull fullSet findingAt firstClash clashAt samePair leftOpening rightOpening leftRecord rightRecord
+unfolding auditOf comparableRefusal ofFourth rejectionOf laterRejection searchOf firstFull fullSet findingAt firstClash clashAt samePair leftString rightString leftRecord rightRecord
 no-fourth system a b c d e = refl

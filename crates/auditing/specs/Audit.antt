@@ -9,13 +9,13 @@ use Rattle.scheme.specs.declared.Scheme.the-variants.{ThreePass, FivePass}
 use Rattle.comparable.specs.Comparable.{comparableRefusal, rejectionOf}
 use Rattle.openings.specs.Openings.{secretOf}
 use Rattle.full_set.specs.FullSet.{answering, firstFull}
-use Rattle.clash.specs.Clash.{leftOpening, rightOpening, firstClash}
+use Rattle.clash.specs.Clash.{leftString, rightString, firstClash}
 use Rattle.auditing.specs.Outcome.{Outcome, secret, clash, refused}
 
 -- commitment k of round r, opened in two ways
 unfoldable pub clashAt : Scheme → List ℕ → List ℕ → List ℕ → List ℕ → List ℕ → ℕ → ℕ → Outcome
 clashAt scheme system a b c d r k =
-    clash k (leftOpening scheme system a b c r k) (rightOpening scheme system a b c d r k)
+    clash k (leftString scheme system a b c r k) (rightString scheme system a b c d r k)
 
 -- "s = r0 + r1 (scheme 5: A's r0, B's r1)": in a full set of scheme 5 A has challenge 0 and B has 1
 unfoldable pub secretAt : List ℕ → List ℕ → List ℕ → List ℕ → ℕ → Outcome

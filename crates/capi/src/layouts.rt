@@ -12,10 +12,12 @@ use slices::put_both;
 use system::check;
 ghost use mathlib.Core.Path.{_≡_};
 ghost use lib.ListN.{length};
-ghost use Rattle.refusal.specs.Refusal.{kept};
+ghost use lib.Dec.{eqb};
+ghost use Rattle.refusal.specs.Refusal.{unless, _orElse_, kept};
+ghost use Rattle.system.specs.System.{systemRefusal};
 ghost use Rattle.record_form.specs.Record.{layoutOf};
 ghost use Rattle.finding_layout.specs.FindingLayout.{findingBytes};
-ghost use Rattle.capi.specs.Layouts.{fieldsBytes, auditNumber, auditRefusal};
+ghost use Rattle.capi.specs.Layouts.{fieldsBytes, auditNumber};
 
 // Writes a record's header, then where its bodies stand.
 pub fn write_fields(h: Header, fields: &mut [u8])
@@ -41,27 +43,23 @@ fn audit_number(f: Finding) -> u32
     }
 }
 
-// The same with the output's length, which comes behind the system and before the records.
-fn audit_refusal(system: &[u8], f: Finding, room: usize) -> u32
-    ensures { λ r. ⌜ r ≡ auditRefusal (now (system .entry)) f «room» ⌝ }
+// What is refused before any record is looked at: the system, then the output's length.
+pub fn early_refusal(system: &[u8], room: usize) -> u32
+    ensures { λ r. ⌜ r ≡ (systemRefusal (now (system .entry)) orElse unless (eqb «room» 752) 2) ⌝ }
 {
     let of_system = check(system);
     let of_room = unless(room == 752, 2);
     let before = first(of_system, of_room);
-    if before != 0 {
-        before as u32
-    } else {
-        audit_number(f)
-    }
+    before as u32
 }
 
-// Writes what an audit found, and answers 0; or answers the refusal, and leaves the output.
-pub fn answer(system: &[u8], audited: Audited, finding: &mut [u8]) -> u32
-    ensures { λ r. ⌜ (r ≡ auditRefusal (now (system .entry)) (audited .finding) (length (now (finding .entry))))
-        × (now (finding .exit) ≡ kept r (now (finding .entry)) (findingBytes audited)) ⌝ }
+// Writes what an audit found, and answers 0; or answers the audit's refusal, and leaves the output.
+pub fn answer(audited: Audited, finding: &mut [u8]) -> u32
+    requires { ⌜ length (now finding) ≡ 752 ⌝ }
+    ensures { λ r. ⌜ (r ≡ auditNumber (audited .finding)) × (now (finding .exit) ≡ kept r (now (finding .entry)) (findingBytes audited)) ⌝ }
 {
     let found = audited.finding;
-    let refused = audit_refusal(system, found, finding.len());
+    let refused = audit_number(found);
     if refused != 0 {
         return refused;
     }

@@ -5,13 +5,13 @@
 mod layouts;
 
 use crate::layouts::answer;
+use crate::layouts::early_refusal;
 use crate::layouts::write_fields;
 use auditing::audit_five;
 use auditing::audit_three;
 use record::header_of;
 use record::read;
 use record::refusal_of;
-use refusal::first;
 use refusal::unless;
 ghost use mathlib.Core.Path.{_≡_};
 ghost use Prim.Native.Nat.{_≤_};
@@ -95,7 +95,11 @@ pub extern "C" fn canvasfox_record_read(bytes: &[u8], fields: &mut [u8]) -> u8
     ensures { λ r. ⌜ (r ≡ fieldsRefusal (now (bytes .entry)) (length (now (fields .entry))))
         × (now (fields .exit) ≡ kept r (now (fields .entry)) (fieldsBytes (layoutOf (headerIn (now (bytes .entry)))))) ⌝ }
 {
-    let refused = first(unless(fields.len() == 30, 2), refusal_of(read(bytes)));
+    let of_length = unless(fields.len() == 30, 2);
+    if of_length != 0 {
+        return of_length;
+    }
+    let refused = refusal_of(read(bytes));
     if refused != 0 {
         return refused;
     }
@@ -127,7 +131,11 @@ pub extern "C" fn canvasfox_audit_three<'a>(
         × (now (finding .exit) ≡ kept r (now (finding .entry))
         (findingBytes (answerOf (auditThree (now (system .entry)) (now (a .entry)) (now (b .entry)) (now (c .entry)))))) ⌝ }
 {
-    answer(system, audit_three(system, a, b, c), finding)
+    let before = early_refusal(system, finding.len());
+    if before != 0 {
+        return before;
+    }
+    answer(audit_three(system, a, b, c), finding)
 }
 
 // The audit of four records of scheme 5.
@@ -145,5 +153,9 @@ pub extern "C" fn canvasfox_audit_five<'a>(
         × (now (finding .exit) ≡ kept r (now (finding .entry))
         (findingBytes (answerOf (auditFive (now (system .entry)) (now (a .entry)) (now (b .entry)) (now (c .entry)) (now (d .entry)))))) ⌝ }
 {
-    answer(system, audit_five(system, a, b, c, d), finding)
+    let before = early_refusal(system, finding.len());
+    if before != 0 {
+        return before;
+    }
+    answer(audit_five(system, a, b, c, d), finding)
 }

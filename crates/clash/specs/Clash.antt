@@ -7,7 +7,7 @@ use Rattle.scheme.specs.declared.Scheme.{Scheme}
 use Rattle.scheme.specs.declared.Scheme.the-variants.{ThreePass, FivePass}
 use Rattle.scheme.specs.Scheme.{commitmentCount}
 use Rattle.transcript.specs.Transcript.{domainIn, firstWhere}
-use Rattle.openings.specs.Openings.{openingIn, sameOpenings}
+use Rattle.openings.specs.Openings.{stringIn, sameVectors}
 use Rattle.full_set.specs.FullSet.{answering}
 use Rattle.commitment.specs.Texts.{TextOf}
 use Rattle.clash.specs.declared.Pair.{Pair}
@@ -33,11 +33,11 @@ rightRecord ThreePass a b c d r k = answering a b c r (higherChallenge k)
 rightRecord FivePass a b c d r k = openerFive c d k
 
 -- the strings with which they open commitment k in round r
-unfoldable pub leftOpening : Scheme → List ℕ → List ℕ → List ℕ → List ℕ → ℕ → ℕ → List ℕ
-leftOpening scheme system a b c r k = openingIn system (leftRecord scheme a b c r k) r k
+unfoldable pub leftString : Scheme → List ℕ → List ℕ → List ℕ → List ℕ → ℕ → ℕ → List ℕ
+leftString scheme system a b c r k = stringIn system (leftRecord scheme a b c r k) r k
 
-unfoldable pub rightOpening : Scheme → List ℕ → List ℕ → List ℕ → List ℕ → List ℕ → ℕ → ℕ → List ℕ
-rightOpening scheme system a b c d r k = openingIn system (rightRecord scheme a b c d r k) r k
+unfoldable pub rightString : Scheme → List ℕ → List ℕ → List ℕ → List ℕ → List ℕ → ℕ → ℕ → List ℕ
+rightString scheme system a b c d r k = stringIn system (rightRecord scheme a b c d r k) r k
 
 -- two strings as the code holds them
 pub record PairOf (p : Pair) (x y : List ℕ) : Type 0 where
@@ -46,7 +46,7 @@ pub record PairOf (p : Pair) (x y : List ℕ) : Type 0 where
 
 -- both hold the same vectors; the records have one domain
 unfoldable pub samePair : Scheme → List ℕ → List ℕ → List ℕ → List ℕ → List ℕ → ℕ → ℕ → Bool
-samePair scheme system a b c d r k = sameOpenings (domainIn a) (leftOpening scheme system a b c r k) (rightOpening scheme system a b c d r k)
+samePair scheme system a b c d r k = sameVectors (domainIn a) (leftString scheme system a b c r k) (rightString scheme system a b c d r k)
 
 -- "The first pair that differs", "in the order c0, c1, c2 (scheme 5: c0 of A and C, c1 of B and D)", counted from 1; 0 where none does
 unfoldable pub firstClash : Scheme → List ℕ → List ℕ → List ℕ → List ℕ → List ℕ → ℕ → ℕ

@@ -4,15 +4,15 @@
 // not looked at there.
 use commitment::Text;
 use full_set::answering;
-use openings::opening;
-use openings::same_openings;
+use openings::opened_string;
+use openings::same_vectors;
 use scheme::Scheme;
 use scheme::commitment_count;
 use transcript::domain_in;
 ghost use mathlib.Core.Path.{_≡_};
 ghost use Rattle.system.specs.System.{systemRefusal};
 ghost use Rattle.clash.specs.Clash.{lowerChallenge, higherChallenge, openerFive, leftRecord, rightRecord};
-ghost use Rattle.clash.specs.Clash.{leftOpening, rightOpening, PairOf, samePair, firstClash};
+ghost use Rattle.clash.specs.Clash.{leftString, rightString, PairOf, samePair, firstClash};
 
 // Three passes: the lower of the two challenges whose replies open commitment k.
 fn lower_challenge(k: u8) -> u8
@@ -90,11 +90,11 @@ pub fn opened_pair<'a>(
     k: u8,
 ) -> Pair
     requires { ⌜ systemRefusal (now system) ≡ 0 ⌝ }
-    ensures { λ p. ⌜ PairOf p (leftOpening scheme (now (system .entry)) (now (a .entry)) (now (b .entry)) (now (c .entry)) r k)
-        (rightOpening scheme (now (system .entry)) (now (a .entry)) (now (b .entry)) (now (c .entry)) (now (d .entry)) r k) ⌝ }
+    ensures { λ p. ⌜ PairOf p (leftString scheme (now (system .entry)) (now (a .entry)) (now (b .entry)) (now (c .entry)) r k)
+        (rightString scheme (now (system .entry)) (now (a .entry)) (now (b .entry)) (now (c .entry)) (now (d .entry)) r k) ⌝ }
 {
-    let left = opening(system, left_record(scheme, a, b, c, r, k), r, k);
-    let right = opening(system, right_record(scheme, a, b, c, d, r, k), r, k);
+    let left = opened_string(system, left_record(scheme, a, b, c, r, k), r, k);
+    let right = opened_string(system, right_record(scheme, a, b, c, d, r, k), r, k);
     Pair { left, right }
 }
 
@@ -115,7 +115,7 @@ fn same_pair<'a>(
     let pair = opened_pair(scheme, system, a, b, c, d, r, k);
     let left = pair.left;
     let right = pair.right;
-    same_openings(domain_in(a), left, right)
+    same_vectors(domain_in(a), left, right)
 }
 
 // The first pair that differs, counted from 1; 0 where none does.

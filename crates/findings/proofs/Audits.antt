@@ -16,7 +16,7 @@ use Rattle.record_form.specs.Record.{headerIn}
 use Rattle.transcript.specs.Transcript.{domainIn, keyVector, roundChallenge}
 use Rattle.comparable.specs.Comparable.{auditedRefusal, differenceRefusal, ofFourth}
 use Rattle.comparable.proofs.Passed.{Passed}
-use Rattle.openings.specs.Openings.{openingIn, secretOf}
+use Rattle.openings.specs.Openings.{stringIn, secretOf}
 use Rattle.full_set.specs.FullSet.{answering}
 use Rattle.clash.specs.Clash.{lowerChallenge, higherChallenge, openerFive, leftRecord, rightRecord, samePair}
 use Rattle.auditing.specs.Audit.{auditThree, auditFive}
@@ -116,7 +116,7 @@ module _ (system a b c : List ℕ) where
   answering-sound s r j = among-sound s _ (answering-among a b c r j)
 
   answering-opened : AllSound (threePass system a b c) → (r k j : ℕ) → FullThree a b c r → k < 3 → j < 3 → (j ≡ k → ⊥) →
-      Opened (domainFor ThreePass) system (answering a b c r j) r k (openingIn system (answering a b c r j) r k)
+      Opened (domainFor ThreePass) system (answering a b c r j) r k (stringIn system (answering a b c r j) r k)
   unfolding threePass
   answering-opened s r k j full hk hj other =
       let has = asked a b c r full j hj in
@@ -224,7 +224,7 @@ module _ (system a b c d : List ℕ) where
         of-d = record { auditable = p .3; accepted = q .3 };
       }
 
-  opens-by : (x : List ℕ) (r k : ℕ) → Sound FivePass system a x → roundChallenge x r ≡ k → k < 2 → Opened (domainFor FivePass) system x r k (openingIn system x r k)
+  opens-by : (x : List ℕ) (r k : ℕ) → Sound FivePass system a x → roundChallenge x r ≡ k → k < 2 → Opened (domainFor FivePass) system x r k (stringIn system x r k)
   opens-by x r k s has h = opened-five (domainFor FivePass) system x r k (own-domain FivePass system a x (s .auditable)) (s .auditable .for-scheme) has h
 
   left-sound-five : FourSound → (r k : ℕ) → Sound FivePass system a (leftRecord FivePass a b c r k)

@@ -20,7 +20,7 @@ use Rattle.scheme.specs.declared.Scheme.the-variants.{ThreePass, FivePass}
 use Rattle.commitment.specs.declared.Domain.{Domain}
 use Rattle.scheme.specs.Scheme.{turnLength, vectorsLength, rhosLength, replyLength}
 use Rattle.record_form.specs.declared.layout.Header.{Header}
-use Rattle.record_form.specs.Record.{ValidExchange, layoutOf, replyOf, vectorsOf, headerIn, fieldsIn}
+use Rattle.record_form.specs.Record.{ValidExchange, layoutOf, replyOf, replyVectors, headerIn, fieldsIn}
 use Rattle.record.specs.Reader.{recordRefusal}
 use Rattle.record.proofs.RecordLayout.{not-refused, valid-fields}
 use Rattle.transcript.specs.Transcript.{domainIn, keyVector, roundExchange, roundTurn, roundReply}
@@ -35,8 +35,8 @@ vectors-room ThreePass n m = omega arith
 vectors-room FivePass n m = omega arith
 
 -- an element of the reply's first vector is one of its elements
-reply-at : (h : Header) (exchange : List ℕ) (i : ℕ) → i < h .n → replyOf h exchange ! i ≡ vectorsOf h exchange ! i
-unfolding replyOf vectorsOf replyLength
+reply-at : (h : Header) (exchange : List ℕ) (i : ℕ) → i < h .n → replyOf h exchange ! i ≡ replyVectors h exchange ! i
+unfolding replyOf replyVectors replyLength
 reply-at h exchange i below =
     let room = vectors-room (h .scheme) (h .n) (h .m) in
     let behind = drop (turnLength (h .scheme) (h .n) (h .m) + 1) exchange in
@@ -89,7 +89,7 @@ module _ (scheme : Scheme) (system a b : List ℕ) where
     unfolding replyVector slotV
     x-is r h =
         let valid = valid-exchange b (not-refused b (k .well-formed)) r h in
-        let vectors = vectorsOf (headerIn b) (roundExchange b r) in
+        let vectors = replyVectors (headerIn b) (roundExchange b r) in
         let read : (i : ℕ) → i < nOf system → roundReply b r ! (0 + i) ≡ vectors ! i =
         λ i below. ap (λ (j : ℕ). roundReply b r ! j) (zero-add i) ∙ reply-at (headerIn b) (roundExchange b r) i (rw (k .has-n) at below)
         in

@@ -24,9 +24,9 @@ use Rattle.transcript.proofs.Search.{FirstIs, where-none, found-where}
 use Rattle.comparable.specs.declared.Rejection.{Rejection}
 use Rattle.comparable.specs.Comparable.{comparableRefusal, rejectionOf}
 use Rattle.comparable.proofs.Passed.{Passed, passed, none-refused}
-use Rattle.openings.specs.Openings.{openingIn, sameOpenings, replyVector, secretOf}
+use Rattle.openings.specs.Openings.{stringIn, sameVectors, replyVector, secretOf}
 use Rattle.full_set.specs.FullSet.{answering, fullSet, firstFull}
-use Rattle.clash.specs.Clash.{leftRecord, rightRecord, leftOpening, rightOpening, samePair, firstClash}
+use Rattle.clash.specs.Clash.{leftRecord, rightRecord, leftString, rightString, samePair, firstClash}
 use Rattle.auditing.specs.Audit.{secretAt, clashAt, findingAt, searchOf, auditOf}
 use Rattle.auditing.proofs.Outcomes.{finding-secret, finding-clash, search-none, search-found, audit-refused, audit-rejected, audit-searched}
 use Rattle.findings.specs.Findings.{Auditable, AllAccepted, Each, AuditCase, ShouldFind, RoundUsed, caseDomain, Compared, AreCompared, Agree, firstVector}
@@ -64,10 +64,10 @@ pub record Laws (t : AuditCase) (b c d : List ℕ) : Type 0 where
   pub right-sound : AllSound t → (r k : ℕ) → Sound (t .scheme) (t .system) (t .first) (rightRecord (t .scheme) (t .first) b c d r k)
   pub left-opened : AllSound t → (r k : ℕ) → t .Full r → k < commitmentCount (t .scheme) →
       let left = leftRecord (t .scheme) (t .first) b c r k in
-      Opened (caseDomain t) (t .system) left r k (openingIn (t .system) left r k)
+      Opened (caseDomain t) (t .system) left r k (stringIn (t .system) left r k)
   pub right-opened : AllSound t → (r k : ℕ) → t .Full r → k < commitmentCount (t .scheme) →
       let right = rightRecord (t .scheme) (t .first) b c d r k in
-      Opened (caseDomain t) (t .system) right r k (openingIn (t .system) right r k)
+      Opened (caseDomain t) (t .system) right r k (stringIn (t .system) right r k)
   pub only-pair : AllSound t → (r k : ℕ) → t .Full r → (x y : List ℕ) (p : Compared t r k x y) →
       (k < commitmentCount (t .scheme)) × (p .left ≡ leftRecord (t .scheme) (t .first) b c r k) × (p .right ≡ rightRecord (t .scheme) (t .first) b c d r k)
 
@@ -85,17 +85,17 @@ hashes-first scheme d system a b r k x s within o =
     let below : r < headerIn b .rounds = subst (λ (h : Header). r < h .rounds) (s .auditable .same-header) within in
     o .hashes (s .accepted r below) ∙ ap (λ (l : List ℕ). commitmentAt l k) (same-commitments scheme system a b r (s .auditable))
 
-vectors-differ : (e d : Domain) (x y : List ℕ) → e ≡ d → sameOpenings d x y ≡ false → vectorsIn e x ≡ vectorsIn e y → ⊥
-unfolding sameOpenings
+vectors-differ : (e d : Domain) (x y : List ℕ) → e ≡ d → sameVectors d x y ≡ false → vectorsIn e x ≡ vectorsIn e y → ⊥
+unfolding sameVectors
 vectors-differ e d x y is differ agreed =
     false≢true (sym differ ∙ same-by (vectorsIn d x) (vectorsIn d y) (subst (λ (f : Domain). vectorsIn f x ≡ vectorsIn f y) is agreed))
 
 -- the openings that are compared agree
 pub pair-agrees : (e : Domain) (scheme : Scheme) (system a b c d : List ℕ) (r k : ℕ) → e ≡ domainIn a → samePair scheme system a b c d r k ≡ true →
-    vectorsIn e (openingIn system (leftRecord scheme a b c r k) r k) ≡ vectorsIn e (openingIn system (rightRecord scheme a b c d r k) r k)
-unfolding samePair sameOpenings leftOpening rightOpening
+    vectorsIn e (stringIn system (leftRecord scheme a b c r k) r k) ≡ vectorsIn e (stringIn system (rightRecord scheme a b c d r k) r k)
+unfolding samePair sameVectors leftString rightString
 pair-agrees e scheme system a b c d r k is same =
-    subst (λ (f : Domain). vectorsIn f (openingIn system (leftRecord scheme a b c r k) r k) ≡ vectorsIn f (openingIn system (rightRecord scheme a b c d r k) r k)) (sym is)
+    subst (λ (f : Domain). vectorsIn f (stringIn system (leftRecord scheme a b c r k) r k) ≡ vectorsIn f (stringIn system (rightRecord scheme a b c d r k) r k)) (sym is)
     (same-true _ _ same)
 
 module _ (t : AuditCase) (b c d : List ℕ) (laws : Laws t b c d) where
@@ -142,8 +142,8 @@ module _ (t : AuditCase) (b c d : List ℕ) (laws : Laws t b c d) where
   case-domain s = first-domain scheme system a _ (laws .left-sound s 0 0 .auditable)
 
   -- commitment k of a round with the full set is opened in two ways
-  pair-at : AllSound t → (r k : ℕ) → t .Full r → k < commitmentCount scheme → Compared t r k (leftOpening scheme system a b c r k) (rightOpening scheme system a b c d r k)
-  unfolding leftOpening rightOpening
+  pair-at : AllSound t → (r k : ℕ) → t .Full r → k < commitmentCount scheme → Compared t r k (leftString scheme system a b c r k) (rightString scheme system a b c d r k)
+  unfolding leftString rightString
   pair-at s r k full h =
       let left = laws .left-opened s r k full h in
       let right = laws .right-opened s r k full h in
@@ -153,8 +153,8 @@ module _ (t : AuditCase) (b c d : List ℕ) (laws : Laws t b c d) where
         order = laws .pair-order r k full h;
         left-opens = left .opens;
         right-opens = right .opens;
-        left-vectors = vectorsIn (caseDomain t) (openingIn system (leftRecord scheme a b c r k) r k);
-        right-vectors = vectorsIn (caseDomain t) (openingIn system (rightRecord scheme a b c d r k) r k);
+        left-vectors = vectorsIn (caseDomain t) (stringIn system (leftRecord scheme a b c r k) r k);
+        right-vectors = vectorsIn (caseDomain t) (stringIn system (rightRecord scheme a b c d r k) r k);
         left-has = left .has;
         right-has = right .has;
       }
@@ -191,7 +191,7 @@ module _ (t : AuditCase) (b c d : List ℕ) (laws : Laws t b c d) where
       }
 
   clash-right : AllSound t → (r : ℕ) → Used r → (k : ℕ) → Differs r k → Right t (clashAt scheme system a b c d r k)
-  unfolding Right clashAt samePair leftOpening rightOpening pair-at
+  unfolding Right clashAt samePair leftString rightString pair-at
   clash-right s r used k differs =
       let round = round-used r used in
       let full = round .full in

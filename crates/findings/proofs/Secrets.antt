@@ -20,7 +20,7 @@ use Rattle.exchange.specs.Messages.{middleIn, replyThreeIn, replyFiveIn}
 use Rattle.exchange.proofs.ReadBack.{Padded, length-padded}
 use Rattle.record_form.specs.Record.{headerIn}
 use Rattle.transcript.specs.Transcript.{domainIn, keyVector, roundTurn, roundChallenge}
-use Rattle.openings.specs.Openings.{openingIn, replyVector, secretOf}
+use Rattle.openings.specs.Openings.{stringIn, replyVector, secretOf}
 use Rattle.findings.specs.Findings.{Auditable, FullFive}
 use Rattle.findings.proofs.Strings.{replyIn, replyInFive, sentIn, row, zero-first, zero-second, one-first, one-second, two-first, two-second, zero-vectors, one-vectors}
 use Rattle.findings.proofs.Elements.{same-domain, same-v, v-is, x-is, alpha-is}
@@ -65,7 +65,7 @@ first-x system b r = refl
 module _ (system a z o t : List ℕ) (r : ℕ) (good : systemRefusal system ≡ 0) where
   -- the vectors with which a record opens commitment k
   abbrev vectorsFor : List ℕ → ℕ → List ℕ
-  vectorsFor b k = vectorsIn (domainIn a) (openingIn system b r k)
+  vectorsFor b k = vectorsIn (domainIn a) (stringIn system b r k)
 
   pub three-secret : Auditable ThreePass system a z → Auditable ThreePass system a o → Auditable ThreePass system a t → r < headerIn z .rounds →
       roundChallenge z r ≡ 0 → roundChallenge o r ≡ 1 → roundChallenge t r ≡ 2 →
@@ -117,14 +117,14 @@ unmaskedWith system v turn x =
 
 one-with : (d : Domain) (system b v turn : List ℕ) (r : ℕ) → d ≡ domainIn b → headerIn b .scheme ≡ FivePass → roundChallenge b r ≡ 1 → keyVector b ≡ v →
     turn ≡ roundTurn b r →
-    vectorsIn d (openingIn system b r 1) ≡ row system (replyInFive system b r .x) (unmaskedWith system v turn (replyInFive system b r .x))
+    vectorsIn d (stringIn system b r 1) ≡ row system (replyInFive system b r .x) (unmaskedWith system v turn (replyInFive system b r .x))
 one-with d system b v turn r by is asked key same =
     one-vectors d system b r by is asked ∙
     ap₂ (λ (k l : List ℕ). row system (replyInFive system b r .x) (unmaskedWith system k l (replyInFive system b r .x))) key (sym same)
 
 module _ (system a b c d : List ℕ) (r : ℕ) (good : systemRefusal system ≡ 0) where
   abbrev vectorsFive : List ℕ → ℕ → List ℕ
-  vectorsFive x k = vectorsIn (domainIn a) (openingIn system x r k)
+  vectorsFive x k = vectorsIn (domainIn a) (stringIn system x r k)
 
   pub five-secret : Auditable FivePass system a a → Auditable FivePass system a b → Auditable FivePass system a c → Auditable FivePass system a d →
       r < headerIn a .rounds → r < headerIn c .rounds → FullFive a b c d r → vectorsFive a 0 ≡ vectorsFive c 0 → vectorsFive b 1 ≡ vectorsFive d 1 →

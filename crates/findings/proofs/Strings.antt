@@ -29,7 +29,7 @@ use Rattle.exchange.specs.Messages.{middleIn, replyThreeIn, replyFiveIn, openin
 use Rattle.exchange.proofs.ReadBack.{length-bytes}
 use Rattle.record_form.specs.Record.{headerIn}
 use Rattle.transcript.specs.Transcript.{domainIn, keyVector, roundCommitments, roundTurn, roundChallenge, roundReply, roundOpenings, acceptedRound}
-use Rattle.openings.specs.Openings.{openingIn}
+use Rattle.openings.specs.Openings.{stringIn}
 use Rattle.findings.specs.Findings.{IsOneOf, Opens, HasVectors}
 
 -- ---- a hashed string
@@ -138,8 +138,8 @@ pub record Opened (d : Domain) (system b : List ℕ) (r k : ℕ) (x : List ℕ) 
   pub hashes : acceptedRound system b r ≡ true → sha256 x ≡ commitmentAt (roundCommitments b r) k
   pub has : HasVectors d k x (vectorsIn d x)
 
-opened-own : (system b : List ℕ) (r k : ℕ) → ListedIn system b r k → Opened (domainIn b) system b r k (openingIn system b r k)
-unfolding openingIn roundOpenings acceptedRound accepts domainIn stringOf
+opened-own : (system b : List ℕ) (r k : ℕ) → ListedIn system b r k → Opened (domainIn b) system b r k (stringIn system b r k)
+unfolding stringIn roundOpenings acceptedRound accepts domainIn stringOf
 opened-own system b r k listed =
     let d = domainIn b in
     let o = openingOf k (roundOpenings system b r) in
@@ -156,18 +156,18 @@ opened-own system b r k listed =
           };
     }
 
-opened-by : (d : Domain) (system b : List ℕ) (r k : ℕ) → d ≡ domainIn b → ListedIn system b r k → Opened d system b r k (openingIn system b r k)
-opened-by d system b r k is listed = subst (λ (e : Domain). Opened e system b r k (openingIn system b r k)) (sym is) (opened-own system b r k listed)
+opened-by : (d : Domain) (system b : List ℕ) (r k : ℕ) → d ≡ domainIn b → ListedIn system b r k → Opened d system b r k (stringIn system b r k)
+opened-by d system b r k is listed = subst (λ (e : Domain). Opened e system b r k (stringIn system b r k)) (sym is) (opened-own system b r k listed)
 
 pub opened-three : (d : Domain) (system b : List ℕ) (r k : ℕ) → d ≡ domainIn b → headerIn b .scheme ≡ ThreePass → roundChallenge b r < 3 → k < 3 →
-    (roundChallenge b r ≡ k → ⊥) → Opened d system b r k (openingIn system b r k)
+    (roundChallenge b r ≡ k → ⊥) → Opened d system b r k (stringIn system b r k)
 opened-three d system b r k same is hc hk other =
     opened-by d system b r k same
     (subst (λ (s : Scheme). Listed system (keyVector b) (roundTurn b r) (roundReply b r) s (roundChallenge b r) k) (sym is)
     (listed-three system (keyVector b) (roundTurn b r) (roundReply b r) (roundChallenge b r) k hc hk other))
 
 pub opened-five : (d : Domain) (system b : List ℕ) (r k : ℕ) → d ≡ domainIn b → headerIn b .scheme ≡ FivePass → roundChallenge b r ≡ k → k < 2 →
-    Opened d system b r k (openingIn system b r k)
+    Opened d system b r k (stringIn system b r k)
 opened-five d system b r k same is asked hk =
     opened-by d system b r k same
     (subst (λ (s : Scheme). Listed system (keyVector b) (roundTurn b r) (roundReply b r) s (roundChallenge b r) k) (sym is)
@@ -184,8 +184,8 @@ opens-other system b r k x is o =
     (other-number system (keyVector b) (roundTurn b r) (roundReply b r) (roundChallenge b r) (o .opening)
     (subst (λ (s : Scheme). IsOneOf (o .opening) (openings system s (keyVector b) (roundTurn b r) (roundChallenge b r) (roundReply b r))) is (o .listed)))
 
-opens-is : (system b : List ℕ) (r k : ℕ) (x : List ℕ) → Opens system b r k x → x ≡ openingIn system b r k
-unfolding openingIn roundOpenings
+opens-is : (system b : List ℕ) (r k : ℕ) (x : List ℕ) → Opens system b r k x → x ≡ stringIn system b r k
+unfolding stringIn roundOpenings
 opens-is system b r k x o =
     o .string ∙
     ap (stringOf (domainIn b))
@@ -194,10 +194,10 @@ opens-is system b r k x o =
 
 -- so its vectors are those that the audit compares
 pub opened-vectors : (d : Domain) (system b c : List ℕ) (r k : ℕ) (x u : List ℕ) → b ≡ c → Opens system b r k x → HasVectors d k x u →
-    Opened d system c r k (openingIn system c r k) → u ≡ vectorsIn d (openingIn system c r k)
+    Opened d system c r k (stringIn system c r k) → u ≡ vectorsIn d (stringIn system c r k)
 opened-vectors d system b c r k x u is opens has opened =
     same-vectors d k _ _ _
-    (subst (λ (y : List ℕ). HasVectors d k y u) (opens-is system b r k x opens ∙ ap (λ (l : List ℕ). openingIn system l r k) is) has) (opened .has)
+    (subst (λ (y : List ℕ). HasVectors d k y u) (opens-is system b r k x opens ∙ ap (λ (l : List ℕ). stringIn system l r k) is) has) (opened .has)
 
 -- ---- the vectors compared, by scheme and challenge
 
@@ -219,14 +219,14 @@ longRow system o p q = take (nOf system) o ++ row system p q
 
 module _ (d : Domain) (system b : List ℕ) (r : ℕ) (same : d ≡ domainIn b) where
   abbrev vectorsFor : ℕ → List ℕ
-  vectorsFor k = vectorsIn d (openingIn system b r k)
+  vectorsFor k = vectorsIn d (stringIn system b r k)
 
   -- with the scheme and the challenge told
   abbrev vectorsBy : Scheme → ℕ → ℕ → List ℕ
   vectorsBy scheme challenge k = vectorsIn d (stringOf d (openingOf k (openings system scheme (keyVector b) (roundTurn b r) challenge (roundReply b r))))
 
   vectors-by : (scheme : Scheme) (challenge k : ℕ) → headerIn b .scheme ≡ scheme → roundChallenge b r ≡ challenge → vectorsFor k ≡ vectorsBy scheme challenge k
-  unfolding openingIn roundOpenings
+  unfolding stringIn roundOpenings
   vectors-by scheme challenge k is asked =
       ap (λ (e : Domain). vectorsIn d (stringOf e (openingOf k (roundOpenings system b r)))) (sym same) ∙ ap₂ (λ (s : Scheme) (c : ℕ). vectorsBy s c k) is asked
 

@@ -14,7 +14,7 @@ use Rattle.round.proofs.Clauses.{five-is-one}
 use Rattle.exchange.specs.Messages.{middleIn, replyThreeIn, replyFiveIn, openings}
 use Rattle.record_form.specs.Record.{headerIn}
 use Rattle.transcript.specs.Transcript.{domainIn, keyVector, roundTurn, roundChallenge, roundReply, roundOpenings}
-use Rattle.openings.specs.Openings.{openingIn}
+use Rattle.openings.specs.Openings.{stringIn}
 
 -- ---- of a list of two, and of one
 
@@ -48,15 +48,15 @@ module _ (system b : List ℕ) (r k : ℕ) where
 
   pub three-in : headerIn b .scheme ≡ ThreePass →
       stringOf (domainIn b) (openingOf k (openingsThree system (keyVector b) (roundChallenge b r) (replyThreeIn (nOf system) (mOf system) (roundReply b r)))) ≡
-      openingIn system b r k
-  unfolding openingIn roundOpenings openings
+      stringIn system b r k
+  unfolding stringIn roundOpenings openings
   three-in is = ap (λ (s : Scheme). stringOf (domainIn b) (openingOf k (openedBy s))) (sym is)
 
   pub five-in : headerIn b .scheme ≡ FivePass →
       stringOf (domainIn b)
       (openingAt (openingsFive system (roundTurn b r ! 0) (keyVector b) (middleIn (nOf system) (mOf system) (roundTurn b r)) (roundChallenge b r)
       (replyFiveIn (nOf system) (roundReply b r))) 0) ≡
-      openingIn system b r k
-  unfolding openingIn roundOpenings openings
+      stringIn system b r k
+  unfolding stringIn roundOpenings openings
   five-in is =
       ap (stringOf (domainIn b)) (one-of-one k _ (five-is-one system _ _ _ _ _)) ∙ ap (λ (s : Scheme). stringOf (domainIn b) (openingOf k (openedBy s))) (sym is)

@@ -11,12 +11,12 @@ use Rattle.round.specs.Openings.{stringOf, openingOf}
 use Rattle.transcript.specs.Transcript.{domainIn, roundReply, roundOpenings}
 
 -- the string with which round r of a record opens commitment k, where its challenge opens it
-unfoldable pub openingIn : List ℕ → List ℕ → ℕ → ℕ → List ℕ
-openingIn system b r k = stringOf (domainIn b) (openingOf k (roundOpenings system b r))
+unfoldable pub stringIn : List ℕ → List ℕ → ℕ → ℕ → List ℕ
+stringIn system b r k = stringOf (domainIn b) (openingOf k (roundOpenings system b r))
 
 -- "Openings are compared by their vectors, ρ ignored"
-unfoldable pub sameOpenings : Domain → List ℕ → List ℕ → Bool
-sameOpenings d x y = same (vectorsIn d x) (vectorsIn d y)
+unfoldable pub sameVectors : Domain → List ℕ → List ℕ → Bool
+sameVectors d x y = same (vectorsIn d x) (vectorsIn d y)
 
 -- the first vector of a reply: r0 to challenge 0, r1 to challenge 1
 unfoldable pub replyVector : List ℕ → List ℕ → ℕ → List ℕ

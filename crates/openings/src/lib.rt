@@ -31,7 +31,7 @@ ghost use Rattle.commitment.specs.Texts.{content, TextOf};
 ghost use Rattle.round.specs.Openings.{stringOf, openingOf};
 ghost use Rattle.round.specs.ThreePass.{openingsThree};
 ghost use Rattle.record_form.specs.Record.{headerIn};
-ghost use Rattle.openings.specs.Openings.{openingIn, sameOpenings, replyVector, secretOf};
+ghost use Rattle.openings.specs.Openings.{stringIn, sameVectors, replyVector, secretOf};
 
 // Three passes: the string with which a reply opens commitment k.
 fn opening_three(
@@ -55,7 +55,7 @@ fn opening_three(
 // Three passes: the string with which a round of a record opens commitment k.
 fn opening_three_in<'a>(system: &'a [u8], bytes: &'a [u8], r: u8, k: u8) -> Text
     requires { ⌜ (systemRefusal (now system) ≡ 0) × (headerIn (now bytes) .scheme ≡ ThreePass) ⌝ }
-    ensures { λ t. ⌜ TextOf (openingIn (now (system .entry)) (now (bytes .entry)) r k) 0 t ⌝ }
+    ensures { λ t. ⌜ TextOf (stringIn (now (system .entry)) (now (bytes .entry)) r k) 0 t ⌝ }
 {
     let n = byte_at(system, 1);
     let m = byte_at(system, 2);
@@ -72,7 +72,7 @@ fn opening_three_in<'a>(system: &'a [u8], bytes: &'a [u8], r: u8, k: u8) -> Text
 // Five passes: a round opens one commitment, by its challenge.
 fn opening_five_in<'a>(system: &'a [u8], bytes: &'a [u8], r: u8, k: u8) -> Text
     requires { ⌜ (systemRefusal (now system) ≡ 0) × (headerIn (now bytes) .scheme ≡ FivePass) ⌝ }
-    ensures { λ t. ⌜ TextOf (openingIn (now (system .entry)) (now (bytes .entry)) r k) 0 t ⌝ }
+    ensures { λ t. ⌜ TextOf (stringIn (now (system .entry)) (now (bytes .entry)) r k) 0 t ⌝ }
 {
     let n = byte_at(system, 1);
     let m = byte_at(system, 2);
@@ -89,9 +89,9 @@ fn opening_five_in<'a>(system: &'a [u8], bytes: &'a [u8], r: u8, k: u8) -> Text
 }
 
 // The string with which a round of a record opens commitment k.
-pub fn opening<'a>(system: &'a [u8], bytes: &'a [u8], r: u8, k: u8) -> Text
+pub fn opened_string<'a>(system: &'a [u8], bytes: &'a [u8], r: u8, k: u8) -> Text
     requires { ⌜ systemRefusal (now system) ≡ 0 ⌝ }
-    ensures { λ t. ⌜ TextOf (openingIn (now (system .entry)) (now (bytes .entry)) r k) 0 t ⌝ }
+    ensures { λ t. ⌜ TextOf (stringIn (now (system .entry)) (now (bytes .entry)) r k) 0 t ⌝ }
 {
     let h = header_of(bytes);
     let scheme = h.scheme;
@@ -102,8 +102,8 @@ pub fn opening<'a>(system: &'a [u8], bytes: &'a [u8], r: u8, k: u8) -> Text
 }
 
 // Whether two strings hold the same vectors; ρ is not looked at.
-pub fn same_openings(d: Domain, x: Text, y: Text) -> bool
-    ensures { λ r. ⌜ r ≡ sameOpenings d (content x) (content y) ⌝ }
+pub fn same_vectors(d: Domain, x: Text, y: Text) -> bool
+    ensures { λ r. ⌜ r ≡ sameVectors d (content x) (content y) ⌝ }
 {
     let first = x.bytes;
     let second = y.bytes;

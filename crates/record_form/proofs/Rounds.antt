@@ -13,7 +13,7 @@ use Rattle.slices.specs.Slices.{_!_}
 use Rattle.scheme.specs.Scheme as S
 use Rattle.record_form.specs.declared.layout.Header.{Header}
 use Rattle.record_form.specs.Record.{Fields, Elements, commitmentsBody, exchangeLength, exchangesBody, Valid, ValidExchange}
-use Rattle.record_form.specs.Record.{commitmentsOf, exchangeOf, turnOf, challengeOf, replyOf, vectorsOf}
+use Rattle.record_form.specs.Record.{commitmentsOf, exchangeOf, turnOf, challengeOf, replyOf, replyVectors}
 use Rattle.record_form.specs.Rounds.{Round, exchangeBytes, joined, fieldsOfRounds, ValidRound, ValidRounds, roundOf}
 use Rattle.record_form.proofs.ValidForm.{values, values-true, header-values-of}
 
@@ -58,8 +58,8 @@ module _ (h : Header) (x : Round) (v : ValidRound h x) where
       let n = S.replyLength (h .scheme) (h .n) (h .m) in
       ap (take n) behind ∙ take-all n (x .reply) (omega (arith, v .reply-length))
 
-  vectors-of : vectorsOf h (exchangeBytes x) ≡ take (S.vectorsLength (h .scheme) (h .n) (h .m)) (x .reply)
-  unfolding vectorsOf
+  vectors-of : replyVectors h (exchangeBytes x) ≡ take (S.vectorsLength (h .scheme) (h .n) (h .m)) (x .reply)
+  unfolding replyVectors
   vectors-of = ap (take (S.vectorsLength (h .scheme) (h .n) (h .m))) behind
 
   valid-exchange-of : ValidExchange h (exchangeBytes x)
@@ -184,7 +184,7 @@ module _ (f : Fields) (v : Valid f) where
   fields-of = λ i. record { header = f .header; key = f .key; commitments = commitments-whole i; exchanges = exchanges-whole i }
 
   valid-round : (r : ℕ) → r < f .header .rounds → ValidRound (f .header) (roundOf f r)
-  unfolding roundOf commitmentsOf commitmentsBody turnOf replyOf vectorsOf exchangeLength S.exchangeLength S.replyLength
+  unfolding roundOf commitmentsOf commitmentsBody turnOf replyOf replyVectors exchangeLength S.exchangeLength S.replyLength
   valid-round r below =
       let h = f .header in
       let x = exchangeOf h (f .exchanges) r in

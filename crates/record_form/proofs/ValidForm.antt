@@ -15,7 +15,7 @@ use Rattle.scheme.specs.Scheme.{isRounds, challenges}
 use Rattle.record_form.specs.declared.layout.Header.{Header}
 use Rattle.record_form.specs.declared.form.Check.{Check}
 use Rattle.record_form.specs.declared.form.Check.the-variants.{FileOrder, Elements, Challenges}
-use Rattle.record_form.specs.Record.{Fields, exchangeOf, turnOf, challengeOf, vectorsOf, ValidExchange, Valid}
+use Rattle.record_form.specs.Record.{Fields, exchangeOf, turnOf, challengeOf, replyVectors, ValidExchange, Valid}
 use Rattle.record_form.specs.Form.{areValues, exchangeRefusal, exchangesRefusal}
 
 -- ---- the header
@@ -62,7 +62,7 @@ valid-parts h x e c =
     record {
       turn-elements = all-below-at (h .q) (turnOf h x) (test-holds (allBelow (h .q) (turnOf h x)) 3 tt (first-zero _ _ e));
       challenge-value = ltb-true (challengeOf h x) (challenges (h .scheme)) (test-holds _ 4 tt c);
-      reply-elements = all-below-at (h .q) (vectorsOf h x) (test-holds (allBelow (h .q) (vectorsOf h x)) 3 tt (later-zero _ _ e));
+      reply-elements = all-below-at (h .q) (replyVectors h x) (test-holds (allBelow (h .q) (replyVectors h x)) 3 tt (later-zero _ _ e));
     }
 
 -- the first bad byte in file order: none is bad

@@ -10,9 +10,9 @@ use Rattle.scheme.specs.Scheme.{isRounds, challenges}
 use Rattle.record_form.specs.declared.layout.Header.{Header}
 use Rattle.record_form.specs.declared.form.Check.{Check}
 use Rattle.record_form.specs.declared.form.Check.the-variants.{FileOrder, Elements, Challenges}
-use Rattle.record_form.specs.Record.{exchangeOf, turnOf, challengeOf, vectorsOf}
+use Rattle.record_form.specs.Record.{exchangeOf, turnOf, challengeOf, replyVectors}
 
--- 1: "q, n, m, N or scheme outside its values"; the scheme is told by its byte (`isScheme`), before it is decoded
+-- 1: "q, n, m, N or scheme outside its values": q, n, m and N here; the scheme is tested on its byte (`isScheme`), where it is read or given
 unfoldable pub areValues : Header → Bool
 areValues h = areSizes (h .q) (h .n) (h .m) && isRounds (h .rounds)
 
@@ -21,8 +21,8 @@ unfoldable pub exchangeRefusal : Check → Header → List ℕ → ℕ
 exchangeRefusal FileOrder h x =
     unless (allBelow (h .q) (turnOf h x)) 3 orElse
     unless (ltb (challengeOf h x) (challenges (h .scheme))) 4 orElse
-    unless (allBelow (h .q) (vectorsOf h x)) 3
-exchangeRefusal Elements h x = unless (allBelow (h .q) (turnOf h x)) 3 orElse unless (allBelow (h .q) (vectorsOf h x)) 3
+    unless (allBelow (h .q) (replyVectors h x)) 3
+exchangeRefusal Elements h x = unless (allBelow (h .q) (turnOf h x)) 3 orElse unless (allBelow (h .q) (replyVectors h x)) 3
 exchangeRefusal Challenges h x = unless (ltb (challengeOf h x) (challenges (h .scheme))) 4
 
 -- of all rounds

@@ -72,7 +72,7 @@ written f = head (f .header) ++ table (f .header) ++ f .key ++ f .commitments ++
 
 -- ---- the fields that stand in a record
 
--- the header of five bytes, of which the first is a scheme's
+-- the header of five bytes, the first decoded as a scheme's
 abbrev pub headerOf : ℕ → ℕ → ℕ → ℕ → ℕ → Header
 headerOf byte q n m rounds = record { scheme = S.schemeOf byte; q = q; n = n; m = m; rounds = rounds }
 
@@ -113,8 +113,8 @@ unfoldable pub replyOf : Header → List ℕ → List ℕ
 replyOf h exchange = take (S.replyLength (h .scheme) (h .n) (h .m)) (drop (S.turnLength (h .scheme) (h .n) (h .m) + 1) exchange)
 
 -- the reply's vectors, without its ρ
-unfoldable pub vectorsOf : Header → List ℕ → List ℕ
-vectorsOf h exchange = take (S.vectorsLength (h .scheme) (h .n) (h .m)) (drop (S.turnLength (h .scheme) (h .n) (h .m) + 1) exchange)
+unfoldable pub replyVectors : Header → List ℕ → List ℕ
+replyVectors h exchange = take (S.vectorsLength (h .scheme) (h .n) (h .m)) (drop (S.turnLength (h .scheme) (h .n) (h .m) + 1) exchange)
 
 -- ---- well-formed
 
@@ -122,9 +122,9 @@ vectorsOf h exchange = take (S.vectorsLength (h .scheme) (h .n) (h .m)) (drop (S
 pub record ValidExchange (h : Header) (exchange : List ℕ) : Type 0 where
   pub turn-elements : Elements (h .q) (turnOf h exchange)
   pub challenge-value : challengeOf h exchange < S.challenges (h .scheme)
-  pub reply-elements : Elements (h .q) (vectorsOf h exchange)
+  pub reply-elements : Elements (h .q) (replyVectors h exchange)
 
--- "every field, element and challenge among its values"; a `Scheme` is one of its own
+-- "every field, element and challenge among its values"; a `Scheme` has no other values
 pub record Valid (f : Fields) : Type 0 where
   pub q-value : isField (f .header .q) ≡ true
   pub n-value : (1 ≤ f .header .n) × (f .header .n ≤ 96)

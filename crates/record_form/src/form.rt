@@ -22,7 +22,7 @@ pub enum Check {
     Challenges,
 }
 
-// Whether q, n, m and the round count are among their values; a scheme is one of its own.
+// Whether q, n, m and the round count are among their values; a `Scheme` has no other values.
 pub fn are_values(h: Header) -> bool
     ensures { λ r. ⌜ r ≡ areValues h ⌝ }
 {

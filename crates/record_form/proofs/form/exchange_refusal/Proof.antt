@@ -1,12 +1,12 @@
 -- The callees' answers, put together, in each of the three orders. Assumes nothing.
-use Rattle.record_form.specs.Record.{turnOf, challengeOf, vectorsOf}
+use Rattle.record_form.specs.Record.{turnOf, challengeOf, replyVectors}
 use Rattle.record_form.specs.Form.{exchangeRefusal}
 use borrow.Author.Needs.{needs}
 use Rattle.record_form.proofs.form.exchange_refusal.Statement.{statement}
 use Rattle.record_form.proofs.form.exchange_refusal.Tie as tie
 
 pub exchange-refusal-spec : {M : Type 1} → statement M
-unfolding exchangeRefusal turnOf challengeOf vectorsOf
+unfolding exchangeRefusal turnOf challengeOf replyVectors
 exchange-refusal-spec =
     tie.close
     (tie.spec

@@ -6,15 +6,15 @@ use Rattle.scheme.specs.declared.Scheme.{Scheme}
 use Rattle.record_form.specs.declared.layout.Header.{Header}
 use Rattle.record_form.specs.Record.{headerIn}
 use borrow.Author.Needs.{needs}
-use Rattle.openings.proofs.opening.Statement.{statement}
-use Rattle.openings.proofs.opening.Tie as tie
+use Rattle.openings.proofs.opened_string.Statement.{statement}
+use Rattle.openings.proofs.opened_string.Tie as tie
 
 -- the scheme that is matched is the record's
 is-of : (b : List ℕ) (h : Header) (s : Scheme) → h ≡ headerIn b → h .scheme ≡ s → headerIn b .scheme ≡ s
 is-of b h s same is = sym (ap (λ (k : Header). k .scheme) same) ∙ is
 
-pub opening-spec : {M : Type 1} → statement M
-opening-spec =
+pub opened-string-spec : {M : Type 1} → statement M
+opened-string-spec =
     tie.close
     (tie.spec
     (λ c κs. search needs)

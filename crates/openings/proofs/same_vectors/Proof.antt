@@ -8,10 +8,10 @@ use lib.Seq.{take-all}
 use Rattle.slices.specs.Slices.{same}
 use Rattle.commitment.specs.declared.Domain.{Domain}
 use Rattle.commitment.specs.Commitment.{vectorsAt, vectorsIn}
-use Rattle.openings.specs.Openings.{sameOpenings}
+use Rattle.openings.specs.Openings.{sameVectors}
 use borrow.Author.Needs.{needs}
-use Rattle.openings.proofs.same_openings.Statement.{statement}
-use Rattle.openings.proofs.same_openings.Tie as tie
+use Rattle.openings.proofs.same_vectors.Statement.{statement}
+use Rattle.openings.proofs.same_vectors.Tie as tie
 
 -- a part of a string that is as long as the string goes to its end
 to-end : (n at : ℕ) (l : List ℕ) → take n (drop at (take n l)) ≡ drop at (take n l)
@@ -22,9 +22,9 @@ side : (d : Domain) (n at : ℕ) (l p q : List ℕ) → p ≡ take n l → q ≡
 unfolding vectorsIn
 side d n at l p q ep eq ea = eq ∙ ap₂ (λ (k : ℕ) (s : List ℕ). take n (drop k s)) ea ep ∙ to-end n (vectorsAt d) l
 
-pub same-openings-spec : {M : Type 1} → statement M
-unfolding sameOpenings
-same-openings-spec =
+pub same-vectors-spec : {M : Type 1} → statement M
+unfolding sameVectors
+same-vectors-spec =
     tie.close
     (tie.spec
     (λ c κs. search needs)
