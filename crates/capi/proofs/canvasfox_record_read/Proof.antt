@@ -4,7 +4,7 @@ use mathlib.Core.Path.{_≡_, sym, _∙_}
 use lib.Dec.{eqb}
 use Rattle.refusal.specs.Refusal.{unless}
 use Rattle.refusal.proofs.Refusals.{kept-refused, kept-accepted, equal-holds}
-use Rattle.record_form.proofs.Chains.{ends, goes-on}
+use Rattle.refusal.proofs.Chains.{ends-here, goes-on}
 use Rattle.capi.specs.Layouts.{fieldsRefusal}
 use borrow.Author.Needs.{needs}
 use Rattle.capi.proofs.canvasfox_record_read.Statement.{statement}
@@ -20,7 +20,7 @@ canvasfox-record-read-spec =
     tie.close
     (tie.spec
     (λ c κs. search needs)
-    (λ c. (ends _ _ _ (simp (c .before .unless .ensures)) (c .if1 .taken), sym (kept-refused _ _ _ (c .if1 .taken))))
+    (λ c. (ends-here _ _ _ (simp (c .before .unless .ensures)) (c .if1 .taken), sym (kept-refused _ _ _ (c .if1 .taken))))
     (λ c κs. search needs)
     (λ c κs. search needs)
     (λ c. (

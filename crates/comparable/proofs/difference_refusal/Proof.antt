@@ -1,6 +1,6 @@
 -- The header, the key, then the commitments, left at the first that differs. Assumes nothing.
 use Rattle.record_form.specs.Record.{fieldsIn}
-use Rattle.record_form.proofs.Chains.{ends, goes-on}
+use Rattle.refusal.proofs.Chains.{ends-here, goes-on}
 use Rattle.comparable.specs.Comparable.{differenceRefusal}
 use borrow.Author.Needs.{needs}
 use Rattle.comparable.proofs.difference_refusal.Statement.{statement}
@@ -16,7 +16,7 @@ difference-refusal-spec =
     (λ c κs. search needs)
     (λ c κs. search needs)
     (λ c.
-    ends _ _ _ (simp (c .before .unless .ensures, c .before .before .equal .ensures, c .before .before .before .part2 .ensures, c .before .before .before .before .part .ensures)) (c .if1 .taken))
+    ends-here _ _ _ (simp (c .before .unless .ensures, c .before .before .equal .ensures, c .before .before .before .part2 .ensures, c .before .before .before .before .part .ensures)) (c .if1 .taken))
     (λ c κs. search needs)
     (λ c κs. search needs)
     (λ c κs. search needs)
@@ -27,7 +27,7 @@ difference-refusal-spec =
     (λ c κs. search needs)
     (λ c.
     goes-on _ _ _ _ (simp (c .before .before .before .before .before .before .before .before .before .before .unless .ensures, c .before .before .before .before .before .before .before .before .before .before .before .equal .ensures, c .before .before .before .before .before .before .before .before .before .before .before .before .part2 .ensures, c .before .before .before .before .before .before .before .before .before .before .before .before .before .part .ensures)) (c .before .before .before .before .before .before .before .before .before .if1 .left)
-    (ends _ _ _ (simp (c .before .unless2 .ensures, c .before .before .equal2 .ensures, c .before .before .before .body-of2 .ensures, c .before .before .before .before .body-of .ensures, c .before .before .before .before .before .laid-out2 .ensures .0, c .before .before .before .before .before .before .header-of2 .ensures, c .before .before .before .before .before .before .before .laid-out .ensures .0, c .before .before .before .before .before .before .before .before .header-of .ensures)) (c .if2 .taken)))
+    (ends-here _ _ _ (simp (c .before .unless2 .ensures, c .before .before .equal2 .ensures, c .before .before .before .body-of2 .ensures, c .before .before .before .before .body-of .ensures, c .before .before .before .before .before .laid-out2 .ensures .0, c .before .before .before .before .before .before .header-of2 .ensures, c .before .before .before .before .before .before .before .laid-out .ensures .0, c .before .before .before .before .before .before .before .before .header-of .ensures)) (c .if2 .taken)))
     (λ c κs. search needs)
     (λ c κs. search needs)
     (λ c κs. search needs)
