@@ -8,7 +8,9 @@ use slices::equal;
 use transcript::round_challenge;
 use transcript::round_turn;
 ghost use mathlib.Core.Path.{_≡_};
-ghost use Rattle.full_set.specs.FullSet.{answering as answeringOf, answered as answeredOf, fullThree, askedBoth, fullFive, fullSet, firstFull};
+ghost use mathlib.Core.Bool.{_||_};
+ghost use lib.Dec.{eqb};
+ghost use Rattle.full_set.specs.FullSet.{answering as answeringOf, fullThree, askedBoth, fullFive, fullSet, firstFull};
 
 // The first of three records whose challenge in a round is the one given, the last where it is no other's.
 pub fn answering<'a>(a: &'a [u8], b: &'a [u8], c: &'a [u8], r: u8, challenge: u8) -> &'a [u8]
@@ -23,20 +25,29 @@ pub fn answering<'a>(a: &'a [u8], b: &'a [u8], c: &'a [u8], r: u8, challenge: u8
     c
 }
 
-// Whether one of three records has the challenge in a round.
-fn answered<'a>(a: &'a [u8], b: &'a [u8], c: &'a [u8], r: u8, challenge: u8) -> bool
-    ensures { λ t. ⌜ t ≡ answeredOf (now (a .entry)) (now (b .entry)) (now (c .entry)) r challenge ⌝ }
+// Whether one of three challenges is the one given.
+fn is_one_of(x: u8, y: u8, z: u8, challenge: u8) -> bool
+    ensures { λ t. ⌜ t ≡ (eqb x challenge || (eqb y challenge || eqb z challenge)) ⌝ }
 {
-    round_challenge(answering(a, b, c, r, challenge), r) == challenge
+    if x == challenge {
+        return true;
+    }
+    if y == challenge {
+        return true;
+    }
+    z == challenge
 }
 
-// Three passes: challenges 0, 1, 2 in any order.
+// Three passes: challenges 0, 1, 2 in any order. Each record is asked once.
 fn full_three<'a>(a: &'a [u8], b: &'a [u8], c: &'a [u8], r: u8) -> bool
     ensures { λ t. ⌜ t ≡ fullThree (now (a .entry)) (now (b .entry)) (now (c .entry)) r ⌝ }
 {
-    if answered(a, b, c, r, 0) {
-        if answered(a, b, c, r, 1) {
-            answered(a, b, c, r, 2)
+    let x = round_challenge(a, r);
+    let y = round_challenge(b, r);
+    let z = round_challenge(c, r);
+    if is_one_of(x, y, z, 0) {
+        if is_one_of(x, y, z, 1) {
+            is_one_of(x, y, z, 2)
         } else {
             false
         }
