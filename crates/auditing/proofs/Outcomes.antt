@@ -13,7 +13,7 @@ use Rattle.auditing.specs.Outcome.{refused}
 use Rattle.auditing.specs.Audit.{clashAt, secretAt, findingAt, searchOf, auditOf}
 
 module _ (scheme : Scheme) (system a b c d : List ℕ) where
-  pub finding-secret : (r k : ℕ) → k ≡ firstClash scheme system a b c d r → k ≡ 0 → secretAt system a b c r ≡ findingAt scheme system a b c d r
+  pub finding-secret : (r k : ℕ) → k ≡ firstClash scheme system a b c d r → k ≡ 0 → secretAt scheme system a b c r ≡ findingAt scheme system a b c d r
   unfolding findingAt
   finding-secret r k is zeroed = simp (sym is ∙ zeroed)
 

@@ -17,15 +17,19 @@ unfoldable pub clashAt : Scheme → List ℕ → List ℕ → List ℕ → List 
 clashAt scheme system a b c d r k =
     clash k (leftString scheme system a b c r k) (rightString scheme system a b c d r k)
 
--- "s = r0 + r1 (scheme 5: A's r0, B's r1)": in a full set of scheme 5 A has challenge 0 and B has 1
-unfoldable pub secretAt : List ℕ → List ℕ → List ℕ → List ℕ → ℕ → Outcome
-secretAt system a b c r = secret (secretOf system (answering a b c r 0) (answering a b c r 1) r)
+-- "s = r0 + r1", which stand in the replies to the challenges 0 and 1; "(scheme 5: A's r0, B's r1)"
+unfoldable pub secretIn : Scheme → List ℕ → List ℕ → List ℕ → List ℕ → ℕ → List ℕ
+secretIn ThreePass system a b c r = secretOf system (answering a b c r 0) (answering a b c r 1) r
+secretIn FivePass system a b c r = secretOf system a b r
+
+unfoldable pub secretAt : Scheme → List ℕ → List ℕ → List ℕ → List ℕ → ℕ → Outcome
+secretAt scheme system a b c r = secret (secretIn scheme system a b c r)
 
 -- "The first pair that differs is the finding .. If none differs, the finding is s"
 unfoldable pub findingAt : Scheme → List ℕ → List ℕ → List ℕ → List ℕ → List ℕ → ℕ → Outcome
 findingAt scheme system a b c d r =
     let k = firstClash scheme system a b c d r in
-    cond (eqb k 0) (secretAt system a b c r) (clashAt scheme system a b c d r (k - 1))
+    cond (eqb k 0) (secretAt scheme system a b c r) (clashAt scheme system a b c d r (k - 1))
 
 -- "The first such round is used."; 9: "no round with a full set"
 unfoldable pub searchOf : Scheme → List ℕ → List ℕ → List ℕ → List ℕ → List ℕ → Outcome

@@ -15,7 +15,7 @@ use scheme::Scheme;
 ghost use mathlib.Core.Path.{_≡_};
 ghost use Rattle.system.specs.System.{systemRefusal};
 ghost use Rattle.auditing.specs.Outcome.{refused as Outcome·refused, clashed as Outcome·clashed, Answers};
-ghost use Rattle.auditing.specs.Audit.{clashAt, secretAt, searchOf, auditOf, auditThree, auditFive};
+ghost use Rattle.auditing.specs.Audit.{clashAt, secretIn, secretAt, searchOf, auditOf, auditThree, auditFive};
 
 // What an audit finds: the secret; commitment k opened with different vectors; or nothing, by the refusal's number with
 // the record and the round, which are 0 but where a round is rejected.
@@ -45,15 +45,41 @@ fn refused(number: u8, whose: u8, round: u8) -> Audited
     }
 }
 
-// The secret, from a round with a full set.
-fn secret_at<'a>(system: &'a [u8], a: &'a [u8], b: &'a [u8], c: &'a [u8], r: u8) -> Audited
-    ensures { λ o. ⌜ Answers o (secretAt (now (system .entry)) (now (a .entry)) (now (b .entry)) (now (c .entry)) r) ⌝ }
+// s, from a round with a full set.
+fn secret_in<'a>(
+    scheme: Scheme,
+    system: &'a [u8],
+    a: &'a [u8],
+    b: &'a [u8],
+    c: &'a [u8],
+    r: u8,
+) -> [u8; 96]
+    ensures { λ s. ⌜ s ≡ secretIn scheme (now (system .entry)) (now (a .entry)) (now (b .entry)) (now (c .entry)) r ⌝ }
 {
-    let zero = answering(a, b, c, r, 0);
-    let one = answering(a, b, c, r, 1);
+    match scheme {
+        Scheme::ThreePass => {
+            let zero = answering(a, b, c, r, 0);
+            let one = answering(a, b, c, r, 1);
+            secret(system, zero, one, r)
+        }
+        Scheme::FivePass => secret(system, a, b, r),
+    }
+}
+
+// The secret as a finding.
+fn secret_at<'a>(
+    scheme: Scheme,
+    system: &'a [u8],
+    a: &'a [u8],
+    b: &'a [u8],
+    c: &'a [u8],
+    r: u8,
+) -> Audited
+    ensures { λ o. ⌜ Answers o (secretAt scheme (now (system .entry)) (now (a .entry)) (now (b .entry)) (now (c .entry)) r) ⌝ }
+{
     Audited {
         finding: Finding::Secret,
-        secret: secret(system, zero, one, r),
+        secret: secret_in(scheme, system, a, b, c, r),
         first: empty(),
         second: empty(),
     }
@@ -110,7 +136,7 @@ fn search<'a>(
     let r = round - 1;
     let k = first_clash(scheme, system, a, b, c, d, r);
     if k == 0 {
-        return secret_at(system, a, b, c, r);
+        return secret_at(scheme, system, a, b, c, r);
     }
     clash_at(scheme, system, a, b, c, d, r, k - 1)
 }

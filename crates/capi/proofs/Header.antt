@@ -44,9 +44,9 @@ above : (number whose round : ℕ) → 0 < number → Numbered (refused number w
 unfolding Numbered
 above number whose round positive = λ none. absurd (omega (arith, positive, none))
 
-of-secret : (system a b c : List ℕ) (r : ℕ) → Numbered (secretAt system a b c r)
+of-secret : (scheme : Scheme) (system a b c : List ℕ) (r : ℕ) → Numbered (secretAt scheme system a b c r)
 unfolding Numbered secretAt
-of-secret system a b c r = tt
+of-secret scheme system a b c r = tt
 
 of-clash : (scheme : Scheme) (system a b c d : List ℕ) (r k : ℕ) → Numbered (clashAt scheme system a b c d r k)
 unfolding Numbered clashAt
@@ -54,7 +54,7 @@ of-clash scheme system a b c d r k = tt
 
 finding-numbered : (scheme : Scheme) (system a b c d : List ℕ) (r : ℕ) → Numbered (findingAt scheme system a b c d r)
 unfolding findingAt
-finding-numbered scheme system a b c d r = either Numbered (eqb (firstClash scheme system a b c d r) 0) _ _ (of-secret system a b c r) (of-clash scheme system a b c d r _)
+finding-numbered scheme system a b c d r = either Numbered (eqb (firstClash scheme system a b c d r) 0) _ _ (of-secret scheme system a b c r) (of-clash scheme system a b c d r _)
 
 search-numbered : (scheme : Scheme) (system a b c d : List ℕ) → Numbered (searchOf scheme system a b c d)
 unfolding searchOf

@@ -1,6 +1,6 @@
 -- Demand 3's first half for both audits: the laws of each scheme, and the claims. Assumes nothing.
 use Prim.Native.Nat.{ℕ, zero, suc, _<_}
-use mathlib.Core.Path.{_≡_, refl, sym, ap, ap₂, subst, _∙_}
+use mathlib.Core.Path.{_≡_, refl, sym, ap, subst, _∙_}
 use mathlib.Core.Bool.{true}
 use mathlib.Core.Logic.{inl, inr}
 use mathlib.Core.List.{List, [], _∷_}
@@ -16,11 +16,11 @@ use Rattle.record_form.specs.Record.{headerIn}
 use Rattle.transcript.specs.Transcript.{domainIn, keyVector, roundChallenge}
 use Rattle.comparable.specs.Comparable.{auditedRefusal, differenceRefusal, ofFourth}
 use Rattle.comparable.proofs.Passed.{Passed}
-use Rattle.openings.specs.Openings.{stringIn, secretOf}
+use Rattle.openings.specs.Openings.{stringIn, replyVector, secretOf}
 use Rattle.full_set.specs.FullSet.{answering}
 use Rattle.clash.specs.Clash.{lowerChallenge, higherChallenge, openerFive, leftRecord, rightRecord, samePair}
-use Rattle.auditing.specs.Audit.{auditThree, auditFive}
-use Rattle.findings.specs.Findings.{Auditable, AllAccepted, FullThree, FullFive, Among, OrderFive, threePass, fivePass, Each, none-left, each, Compared, Claim}
+use Rattle.auditing.specs.Audit.{secretIn, auditThree, auditFive}
+use Rattle.findings.specs.Findings.{Auditable, AllAccepted, FullThree, FullFive, Among, OrderFive, threePass, fivePass, Each, none-left, each, Compared, Claim, firstVector}
 use Rattle.findings.proofs.Comparing.{auditable, readable, alike, fitting, alike-itself}
 use Rattle.findings.proofs.Rejecting.{three-walk, five-walk}
 use Rattle.findings.proofs.FullSets.{answering-among, alone, answers, AnsweredAll, answered-all, three-full, full-three, five-full, full-five, set-three, set-five}
@@ -137,7 +137,7 @@ module _ (system a b c : List ℕ) where
 
   -- whatever stands in the place of a fourth record
   three-laws : (d : List ℕ) → Laws (threePass system a b c) b c d
-  unfolding threePass ofFourth leftRecord rightRecord lowerChallenge higherChallenge commitmentCount
+  unfolding threePass ofFourth leftRecord rightRecord lowerChallenge higherChallenge commitmentCount secretIn secretOf replyVector firstVector
   three-laws d =
       record {
         passed-tells = λ k.
@@ -150,12 +150,15 @@ module _ (system a b c : List ℕ) where
         full-tells = λ r e. three-full a b c r (sym (set-three a b c d r) ∙ e);
         full-when = λ r full. set-three a b c d r ∙ full-three a b c r full;
         secret-solves = secret-solves-three;
-        secret-halves = λ r full.
+        secret-sum = λ r full.
             record {
+              x = answering a b c r 0;
+              y = answering a b c r 1;
               x-among = answering-among a b c r 0;
               y-among = answering-among a b c r 1;
               x-challenge = asked a b c r full 0 (omega arith);
               y-challenge = asked a b c r full 1 (omega arith);
+              sum = refl;
             };
         pair-order = λ r k full h.
             let o = other-two k h in
@@ -172,7 +175,7 @@ module _ (system a b c : List ℕ) where
       }
     where
       secret-solves-three : AllSound (threePass system a b c) → (r : ℕ) → r < headerIn a .rounds → FullThree a b c r →
-          ((k : ℕ) → k < 3 → samePair ThreePass system a b c d r k ≡ true) → F system (secretOf system (answering a b c r 0) (answering a b c r 1) r) ≡ keyVector a
+          ((k : ℕ) → k < 3 → samePair ThreePass system a b c d r k ≡ true) → F system (secretIn ThreePass system a b c r) ≡ keyVector a
       secret-solves-three s r h full same =
           let k : (j : ℕ) → Auditable ThreePass system a (answering a b c r j) = λ j. answering-sound s r j .auditable in
           three-secret system a (answering a b c r 0) (answering a b c r 1) (answering a b c r 2) r (s .good) (k 0) (k 1) (k 2) (within ThreePass system a _ r (k 0) h)
@@ -188,15 +191,6 @@ module _ (system a b c : List ℕ) where
 -- ---- five passes
 
 module _ (system a b c d : List ℕ) where
-  -- a full set has challenge 0 in A and 1 in B
-  a-answers : (r : ℕ) → FullFive a b c d r → answering a b c r 0 ≡ a
-  unfolding answering
-  a-answers r full = simp (full .a-challenge)
-
-  b-answers : (r : ℕ) → FullFive a b c d r → answering a b c r 1 ≡ b
-  unfolding answering
-  b-answers r full = simp (full .a-challenge, full .b-challenge)
-
   -- what is known of the four records
   record FourSound : Type 0 where
     of-a : Sound FivePass system a a
@@ -260,15 +254,14 @@ module _ (system a b c d : List ℕ) where
   right-asked r (suc (suc k)) full h = absurd (omega arith)
 
   secret-solves-five : systemRefusal system ≡ 0 → FourSound → (r : ℕ) → r < headerIn a .rounds → FullFive a b c d r →
-      ((k : ℕ) → k < 2 → samePair FivePass system a b c d r k ≡ true) → F system (secretOf system (answering a b c r 0) (answering a b c r 1) r) ≡ keyVector a
-  unfolding leftRecord rightRecord openerFive
+      ((k : ℕ) → k < 2 → samePair FivePass system a b c d r k ≡ true) → F system (secretIn FivePass system a b c r) ≡ keyVector a
+  unfolding secretIn leftRecord rightRecord openerFive
   secret-solves-five good s r h full same =
-      ap₂ (λ (x y : List ℕ). F system (secretOf system x y r)) (a-answers r full) (b-answers r full) ∙
       five-secret system a b c d r good (s .of-a .auditable) (s .of-b .auditable) (s .of-c .auditable) (s .of-d .auditable) h (within FivePass system a c r (s .of-c .auditable) h) full
       (pair-agrees (domainIn a) FivePass system a b c d r 0 refl (same 0 (omega arith))) (pair-agrees (domainIn a) FivePass system a b c d r 1 refl (same 1 (omega arith)))
 
   five-laws : Laws (fivePass system a b c d) b c d
-  unfolding fivePass ofFourth commitmentCount
+  unfolding fivePass ofFourth commitmentCount secretIn secretOf replyVector firstVector
   five-laws =
       record {
         passed-tells = λ k.
@@ -282,7 +275,7 @@ module _ (system a b c d : List ℕ) where
         full-tells = λ r e. five-full a b c d r (sym (set-five a b c d r) ∙ e);
         full-when = λ r full. set-five a b c d r ∙ full-five a b c d r full;
         secret-solves = λ s r h full same. secret-solves-five (s .good) (four-sound s) r h full same;
-        secret-halves = λ r full. (a-answers r full, b-answers r full);
+        secret-sum = λ r full. refl;
         pair-order = λ r k full h. order-five r k h;
         left-sound = λ s r k. left-sound-five (four-sound s) r k;
         right-sound = λ s r k. right-sound-five (four-sound s) r k;

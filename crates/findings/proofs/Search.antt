@@ -10,9 +10,10 @@ use Rattle.slices.proofs.Sameness.{same-true, same-by}
 use Rattle.sha256.specs.Sha256.{sha256}
 use Rattle.system.specs.System.{F, systemRefusal}
 use Rattle.system.proofs.SystemLayout.{well-formed, not-refused}
-use Rattle.protocol.specs.Rounds.{mapOf}
+use Rattle.protocol.specs.Rounds.{mapOf, IsX}
 use Rattle.protocol.proofs.Rounds.{quadratic-map}
 use Rattle.scheme.specs.declared.Scheme.{Scheme}
+use Rattle.scheme.specs.declared.Scheme.the-variants.{ThreePass, FivePass}
 use Rattle.scheme.specs.Scheme.{commitmentCount}
 use Rattle.commitment.specs.declared.Domain.{Domain}
 use Rattle.commitment.specs.Commitment.{vectorsIn}
@@ -24,12 +25,12 @@ use Rattle.transcript.proofs.Search.{FirstIs, where-none, found-where}
 use Rattle.comparable.specs.declared.Rejection.{Rejection}
 use Rattle.comparable.specs.Comparable.{comparableRefusal, rejectionOf}
 use Rattle.comparable.proofs.Passed.{Passed, passed, none-refused}
-use Rattle.openings.specs.Openings.{stringIn, sameVectors, replyVector, secretOf}
-use Rattle.full_set.specs.FullSet.{answering, fullSet, firstFull}
+use Rattle.openings.specs.Openings.{stringIn, sameVectors, secretOf}
+use Rattle.full_set.specs.FullSet.{fullSet, firstFull}
 use Rattle.clash.specs.Clash.{leftRecord, rightRecord, leftString, rightString, samePair, firstClash}
-use Rattle.auditing.specs.Audit.{secretAt, clashAt, findingAt, searchOf, auditOf}
+use Rattle.auditing.specs.Audit.{secretIn, secretAt, clashAt, findingAt, searchOf, auditOf}
 use Rattle.auditing.proofs.Outcomes.{finding-secret, finding-clash, search-none, search-found, audit-refused, audit-rejected, audit-searched}
-use Rattle.findings.specs.Findings.{Auditable, AllAccepted, Each, AuditCase, ShouldFind, RoundUsed, caseDomain, Compared, AreCompared, Agree, firstVector}
+use Rattle.findings.specs.Findings.{Auditable, AllAccepted, Each, AuditCase, ShouldFind, RoundUsed, caseDomain, Compared, AreCompared, Agree}
 use Rattle.findings.specs.Findings.{RightRefusal, Right, IsFinding, Claim}
 use Rattle.findings.proofs.Numbers.{nine, comparable-number}
 use Rattle.findings.proofs.Rejecting.{walk, all-accepted, none-rejected, first-rejected}
@@ -57,8 +58,8 @@ pub record Laws (t : AuditCase) (b c d : List ℕ) : Type 0 where
   pub full-when : (r : ℕ) → t .Full r → fullSet (t .scheme) (t .first) b c d r ≡ true
   pub secret-solves : AllSound t → (r : ℕ) → r < headerIn (t .first) .rounds → t .Full r →
       ((k : ℕ) → k < commitmentCount (t .scheme) → samePair (t .scheme) (t .system) (t .first) b c d r k ≡ true) →
-      F (t .system) (secretOf (t .system) (answering (t .first) b c r 0) (answering (t .first) b c r 1) r) ≡ keyVector (t .first)
-  pub secret-halves : (r : ℕ) → t .Full r → t .Halves r (answering (t .first) b c r 0) (answering (t .first) b c r 1)
+      F (t .system) (secretIn (t .scheme) (t .system) (t .first) b c r) ≡ keyVector (t .first)
+  pub secret-sum : (r : ℕ) → t .Full r → t .Sum r (secretIn (t .scheme) (t .system) (t .first) b c r)
   pub pair-order : (r k : ℕ) → t .Full r → k < commitmentCount (t .scheme) → t .Order r k (leftRecord (t .scheme) (t .first) b c r k) (rightRecord (t .scheme) (t .first) b c d r k)
   pub left-sound : AllSound t → (r k : ℕ) → Sound (t .scheme) (t .system) (t .first) (leftRecord (t .scheme) (t .first) b c r k)
   pub right-sound : AllSound t → (r k : ℕ) → Sound (t .scheme) (t .system) (t .first) (rightRecord (t .scheme) (t .first) b c d r k)
@@ -70,6 +71,14 @@ pub record Laws (t : AuditCase) (b c d : List ℕ) : Type 0 where
       Opened (caseDomain t) (t .system) right r k (stringIn (t .system) right r k)
   pub only-pair : AllSound t → (r k : ℕ) → t .Full r → (x y : List ℕ) (p : Compared t r k x y) →
       (k < commitmentCount (t .scheme)) × (p .left ≡ leftRecord (t .scheme) (t .first) b c r k) × (p .right ≡ rightRecord (t .scheme) (t .first) b c d r k)
+
+-- ---- the secret
+
+-- a sum is a vector of elements, whatever is added
+secret-vector : (scheme : Scheme) (system a b c : List ℕ) (r : ℕ) → systemRefusal system ≡ 0 → IsX system (secretIn scheme system a b c r)
+unfolding secretIn secretOf mapOf
+secret-vector ThreePass system a b c r good = quadratic-map system good .groupX .add-is _ _
+secret-vector FivePass system a b c r good = quadratic-map system good .groupX .add-is _ _
 
 -- ---- one commitment, opened in two ways
 
@@ -170,24 +179,21 @@ module _ (t : AuditCase) (b c d : List ℕ) (laws : Laws t b c d) where
       pair-agrees (caseDomain t) scheme system a b c d r k (case-domain s) (same (only .0)) ∙
       sym (opened-vectors (caseDomain t) system (p .right) _ r k y (p .right-vectors) (only .2) (p .right-opens) (p .right-has) (laws .right-opened s r k full (only .0)))
 
-  secret-right : AllSound t → (r : ℕ) → Used r → firstClash scheme system a b c d r ≡ 0 → Right t (secretAt system a b c r)
-  unfolding Right secretAt firstClash secretOf replyVector firstVector mapOf
+  secret-right : AllSound t → (r : ℕ) → Used r → firstClash scheme system a b c d r ≡ 0 → Right t (secretAt scheme system a b c r)
+  unfolding Right secretAt firstClash
   secret-right s r used none =
       let round = round-used r used in
       let same : (k : ℕ) → k < commitmentCount scheme → samePair scheme system a b c d r k ≡ true =
       λ k h. not-false _ (where-none (commitmentCount scheme) (λ j. not (samePair scheme system a b c d r j)) none k h)
       in
       record {
-        is-vector = quadratic-map system (s .good) .groupX .add-is _ _;
+        is-vector = secret-vector scheme system a b c r (s .good);
         solves = laws .secret-solves s r (used .within) (round .full) same;
         round = r;
         used = round;
         none-differs = λ k. agree s r k (round .full) (same k);
         each-compared = λ k is. compared-at s r k (round .full) is;
-        zero-record = answering a b c r 0;
-        one-record = answering a b c r 1;
-        halves = laws .secret-halves r (round .full);
-        sum = refl;
+        sum = laws .secret-sum r (round .full);
       }
 
   clash-right : AllSound t → (r : ℕ) → Used r → (k : ℕ) → Differs r k → Right t (clashAt scheme system a b c d r k)

@@ -69,18 +69,31 @@ pub record OrderThree (a b c : List ℕ) (r k : ℕ) (left right : List ℕ) : T
 abbrev pub OrderFive : List ℕ → List ℕ → List ℕ → List ℕ → ℕ → ℕ → List ℕ → List ℕ → Type 0
 OrderFive a b c d r k left right = ((k ≡ 0) × (left ≡ a) × (right ≡ c)) ⊎ ((k ≡ 1) × (left ≡ b) × (right ≡ d))
 
--- "s = r0 + r1": the records whose replies have r0 and r1, to the challenges 0 and 1
-pub record HalvesThree (a b c : List ℕ) (r : ℕ) (x y : List ℕ) : Type 0 where
+-- ---- of what the secret is the sum
+
+-- the first vector of a reply: "r0, t1, e1", "r1, t1, e1", "reply r0, ρ0", "reply r1, ρ1"
+unfoldable pub firstVector : List ℕ → List ℕ → ℕ → List ℕ
+firstVector system b r = slotV (nOf system) 0 (roundReply b r)
+
+-- "s = r0 + r1": r0 in the reply of the record x, r1 in that of y
+abbrev pub SumOf : List ℕ → ℕ → List ℕ → List ℕ → List ℕ → Type 0
+SumOf system r x y s = s ≡ addV (opsOf system) (nOf system) (firstVector system x r) (firstVector system y r)
+
+-- the replies to the challenges 0 and 1 have them
+pub record SumThree (system a b c : List ℕ) (r : ℕ) (s : List ℕ) : Type 0 where
+  pub x : List ℕ
+  pub y : List ℕ
   pub x-among : Among a b c x
   pub y-among : Among a b c y
   pub x-challenge : roundChallenge x r ≡ 0
   pub y-challenge : roundChallenge y r ≡ 1
+  pub sum : SumOf system r x y s
 
 -- "(scheme 5: A's r0, B's r1)"
-abbrev pub HalvesFive : List ℕ → List ℕ → ℕ → List ℕ → List ℕ → Type 0
-HalvesFive a b r x y = (x ≡ a) × (y ≡ b)
+abbrev pub SumFive : List ℕ → List ℕ → List ℕ → ℕ → List ℕ → Type 0
+SumFive system a b r s = SumOf system r a b s
 
--- ---- the audit of a scheme: its records, the full set in a round, the order of the two strings of commitment k, and whose replies have r0 and r1
+-- ---- the audit of a scheme: its records, the full set in a round, the order of the two strings of commitment k, and of what the secret is the sum
 
 pub record AuditCase : Type 1 where
   pub scheme : Scheme
@@ -89,7 +102,7 @@ pub record AuditCase : Type 1 where
   pub others : List (List ℕ)
   pub Full : ℕ → Type 0
   pub Order : ℕ → ℕ → List ℕ → List ℕ → Type 0
-  pub Halves : ℕ → List ℕ → List ℕ → Type 0
+  pub Sum : ℕ → List ℕ → Type 0
 
 unfoldable pub threePass : List ℕ → List ℕ → List ℕ → List ℕ → AuditCase
 threePass system a b c =
@@ -100,7 +113,7 @@ threePass system a b c =
       others = b ∷ c ∷ [];
       Full = FullThree a b c;
       Order = OrderThree a b c;
-      Halves = HalvesThree a b c;
+      Sum = SumThree system a b c;
     }
 
 unfoldable pub fivePass : List ℕ → List ℕ → List ℕ → List ℕ → List ℕ → AuditCase
@@ -112,7 +125,7 @@ fivePass system a b c d =
       others = b ∷ c ∷ d ∷ [];
       Full = FullFive a b c d;
       Order = OrderFive a b c d;
-      Halves = HalvesFive a b;
+      Sum = SumFive system a b;
     }
 
 -- each of the records
@@ -197,10 +210,6 @@ pub record TrueClash (t : AuditCase) (k : ℕ) (x y : List ℕ) : Type 0 where
   pub left-hashes : sha256 x ≡ commitmentAt (roundCommitments (t .first) round) k
   pub right-hashes : sha256 y ≡ commitmentAt (roundCommitments (t .first) round) k
 
--- the first vector of a reply: "r0, t1, e1", "r1, t1, e1", "reply r0, ρ0", "reply r1, ρ1"
-unfoldable pub firstVector : List ℕ → List ℕ → ℕ → List ℕ
-firstVector system b r = slotV (nOf system) 0 (roundReply b r)
-
 -- a true secret: a vector s with F(s) = v, "v is the records' key"; "If none differs, the finding is s = r0 + r1"
 pub record TrueSecret (t : AuditCase) (s : List ℕ) : Type 0 where
   pub is-vector : IsX (t .system) s
@@ -209,10 +218,7 @@ pub record TrueSecret (t : AuditCase) (s : List ℕ) : Type 0 where
   pub used : RoundUsed t round
   pub none-differs : (k : ℕ) → Agree t round k
   pub each-compared : (k : ℕ) → IsCommitment t k → AreCompared t round k
-  pub zero-record : List ℕ
-  pub one-record : List ℕ
-  pub halves : t .Halves round zero-record one-record
-  pub sum : s ≡ addV (opsOf (t .system)) (nOf (t .system)) (firstVector (t .system) zero-record round) (firstVector (t .system) one-record round)
+  pub sum : t .Sum round s
 
 -- 8: "first record, then first round, both given, counted from 1"
 pub data FirstRejected (system : List ℕ) : List (List ℕ) → ℕ → ℕ → Type 0 where

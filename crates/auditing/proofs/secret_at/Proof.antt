@@ -13,6 +13,4 @@ secret-at-spec =
     (λ c κs. search needs)
     (λ c κs. search needs)
     (λ c κs. search needs)
-    (λ c κs. search needs)
-    (λ c κs. search needs)
-    (λ c. answers-secret _ _ _ _ (simp (c .before .before .secret .ensures, c .before .before .before .answering2 .ensures, c .before .before .before .before .answering .ensures)) (c .before .empty .ensures .is) (c .empty2 .ensures .is)))
+    (λ c. answers-secret _ _ _ _ (c .before .before .secret-in .ensures) (c .before .empty .ensures .is) (c .empty2 .ensures .is)))
