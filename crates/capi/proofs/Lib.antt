@@ -1,3 +1,3 @@
--- What is refused before the records of an audit, and what the header file says beside the contracts.
-pub mod Early
+-- An audit's refusals by the length of its output, and what the header file says beside the contracts.
+pub mod OutputLength
 pub mod Header

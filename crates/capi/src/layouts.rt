@@ -5,15 +5,13 @@ use finding_layout::finding_bytes;
 use record_form::Header;
 use record_form::table;
 use refusal::first;
-use refusal::unless;
 use scheme::byte_of;
 use slices::put;
 use slices::put_both;
 use system::check;
 ghost use mathlib.Core.Path.{_≡_};
 ghost use lib.ListN.{length};
-ghost use lib.Dec.{eqb};
-ghost use Rattle.refusal.specs.Refusal.{unless, _orElse_, kept};
+ghost use Rattle.refusal.specs.Refusal.{_orElse_, kept};
 ghost use Rattle.system.specs.System.{systemRefusal};
 ghost use Rattle.record_form.specs.Record.{layoutOf};
 ghost use Rattle.finding_layout.specs.FindingLayout.{findingBytes};
@@ -43,14 +41,13 @@ fn audit_number(f: Finding) -> u32
     }
 }
 
-// What is refused before any record is looked at: the system, then the output's length.
-pub fn early_refusal(system: &[u8], room: usize) -> u32
-    ensures { λ r. ⌜ r ≡ (systemRefusal (now (system .entry)) orElse unless (eqb «room» 752) 2) ⌝ }
+// The refusal of an output that has not 752 bytes: the system's, else 2. No record is looked at.
+pub fn length_refusal(system: &[u8]) -> u32
+    ensures { λ r. ⌜ r ≡ (systemRefusal (now (system .entry)) orElse 2) ⌝ }
 {
     let of_system = check(system);
-    let of_room = unless(room == 752, 2);
-    let before = first(of_system, of_room);
-    before as u32
+    let number = first(of_system, 2);
+    number as u32
 }
 
 // Writes what an audit found, and answers 0; or answers the audit's refusal, and leaves the output.

@@ -5,7 +5,7 @@
 mod layouts;
 
 use crate::layouts::answer;
-use crate::layouts::early_refusal;
+use crate::layouts::length_refusal;
 use crate::layouts::write_fields;
 use auditing::audit_five;
 use auditing::audit_three;
@@ -131,9 +131,8 @@ pub extern "C" fn canvasfox_audit_three<'a>(
         × (now (finding .exit) ≡ kept r (now (finding .entry))
         (findingBytes (answerOf (auditThree (now (system .entry)) (now (a .entry)) (now (b .entry)) (now (c .entry)))))) ⌝ }
 {
-    let before = early_refusal(system, finding.len());
-    if before != 0 {
-        return before;
+    if finding.len() != 752 {
+        return length_refusal(system);
     }
     answer(audit_three(system, a, b, c), finding)
 }
@@ -153,9 +152,8 @@ pub extern "C" fn canvasfox_audit_five<'a>(
         × (now (finding .exit) ≡ kept r (now (finding .entry))
         (findingBytes (answerOf (auditFive (now (system .entry)) (now (a .entry)) (now (b .entry)) (now (c .entry)) (now (d .entry)))))) ⌝ }
 {
-    let before = early_refusal(system, finding.len());
-    if before != 0 {
-        return before;
+    if finding.len() != 752 {
+        return length_refusal(system);
     }
     answer(audit_five(system, a, b, c, d), finding)
 }
