@@ -13,8 +13,7 @@ pub const TIMED: &str = "\
 Best of many, in microseconds, with the largest system lent, q = 251 and n = m = 96, of 456,195 bytes. A call of a session that is
 refused because of the state, with 11 where the session is closed and with 10 where another call is due, does not look at the system,
 whose check is the first row. An audit ends at the first refusal: of the system, by its last byte, or of the first of three records of
-255 rounds, by its edition, after the check of the system. Rust makes the same tests in the same order; the engine's C interface checks
-the system once more, since the length of its output comes behind the system's refusals and before all others.
+255 rounds, by its edition, after the check of the system. Rust makes the same tests in the same order.
 
 ";
 

@@ -9,13 +9,14 @@ use native.Mathlib.Decide.{decLe}
 use native.Mathlib.Numerals.{add-one}
 use native.Mathlib.Omega.{arith}
 use lib.Dec.{ltb}
-use lib.ListN.{length, set, replicate, length-set, length-replicate, getD-replicate}
-use lib.Seq.{getD-set-same, getD-set-other}
+use lib.ListN.{length, set, replicate, take, drop, length-set, length-replicate, getD-replicate, List·getD-eq-default}
+use lib.Seq.{getD-set-same, getD-set-other, getD-take, getD-drop}
 use borrow.Author.Tests.{lt-ltb, le-ltb}
 use Rattle.slices.specs.Slices.{_!_}
+use Rattle.slices.proofs.Parts.{part-most}
 use Rattle.slices.proofs.Tabulate.{length-tabulate, tabulate-at, tabulate-beyond, tabulate-of}
 use Rattle.field.specs.Ops.{Ops}
-use Rattle.field.specs.Vector.{vector, IsVector}
+use Rattle.field.specs.Vector.{vector, asVector, IsVector}
 use Rattle.field.proofs.Elements.{everywhere}
 
 -- ---- vectors
@@ -55,6 +56,22 @@ vector-of l n f len low high =
 pub vector-cong : (n : ℕ) (f g : ℕ → ℕ) → ((i : ℕ) → i < n → i < 96 → f i ≡ g i) → vector n f ≡ vector n g
 vector-cong n f g same =
     vector-of (vector n f) n g (length-vector n f) (λ i h k. vector-at n f i h k ∙ same i h k) (λ i h k. vector-beyond n f i h)
+
+-- the vector of what there is of a part
+pub vector-part : (l p : List ℕ) (place n : ℕ) → p ≡ take n (drop place l) → asVector p ≡ vector n (λ i. l ! (place + i))
+vector-part l p place n is =
+    vector-of (asVector p) n _ (length-vector (length p) _) within
+    (λ i h k. vector-beyond (length p) _ i (omega (arith, h, part-most l p place n is)))
+  where
+    held : (i : ℕ) → i < 96 → asVector p ! i ≡ p ! i
+    held i k =
+        elim (decLe (length p) i) [
+          | yes beyond ↦ vector-beyond (length p) _ i beyond ∙ sym (List·getD-eq-default p 0 beyond)
+          | no inside ↦ vector-at (length p) _ i (lt-of-not-le inside) k
+        ]
+
+    within : (i : ℕ) → i < n → i < 96 → asVector p ! i ≡ l ! (place + i)
+    within i h k = held i k ∙ ap (λ (t : List ℕ). t ! i) is ∙ getD-take n (drop place l) i 0 h ∙ getD-drop place l i 0
 
 -- what is read of a vector is an element, wherever it is read
 pub element-at : (o : Ops) (n : ℕ) (x : List ℕ) → IsVector o n x → (i : ℕ) → x ! i < o .size

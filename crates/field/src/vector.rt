@@ -2,7 +2,7 @@
 use crate::scalar::add;
 use crate::scalar::mul;
 use crate::scalar::sub;
-use slices::byte_from;
+use slices::part;
 ghost use mathlib.Core.Path.{_≡_};
 ghost use Prim.Native.Nat.{min};
 ghost use lib.ListN.{length};
@@ -43,14 +43,7 @@ pub fn from_slice(s: &[u8]) -> [u8; 96]
 pub fn slot(s: &[u8], at: usize, n: u8) -> [u8; 96]
     ensures { λ r. ⌜ r ≡ slotV n «at» (now (s .entry)) ⌝ }
 {
-    let mut z = [0; 96];
-    let end = clamped(n as usize);
-    let mut i = 0;
-    while i < end {
-        z[i] = byte_from(s, at, i);
-        i += 1;
-    }
-    z
+    from_slice(part(s, at, n as usize))
 }
 
 fn apply(o: Operation, q: u8, a: u8, b: u8) -> u8

@@ -73,7 +73,7 @@ fn block_end(at: usize, len: usize) -> usize
     requires { ⌜ at < len ⌝ }
     ensures { λ r. ⌜ (at < r) × (r ≤ len) ⌝ }
 {
-    if len - at <= 512 { len } else { at + 512 }
+    if len - at <= 4096 { len } else { at + 4096 }
 }
 
 // The remainder by 2, which is all that the field of two elements keeps: blocks are summed by bits, sixteen pairs at a time.

@@ -2,11 +2,14 @@
 use Prim.Native.Nat.{ℕ, _+_, _-_, _≤_, _<_}
 use mathlib.Core.Path.{_≡_, refl, sym, ap, ap₂, _∙_}
 use mathlib.Core.List.{List, [], _++_, append-nil, append-assoc}
+use native.Mathlib.Nat.{lt-of-not-le}
+use native.Mathlib.Decide.{decLe}
 use native.Mathlib.Omega.{arith}
-use lib.ListN.{length, take, drop, length-append, length-drop, drop-of-length-le, List·getD-append}
+use lib.ListN.{length, take, drop, replicate, length-append, length-take, length-drop, length-replicate, getD-replicate, drop-of-length-le, List·getD-append, List·getD-eq-default}
 use lib.Seq.{length-take-le, take-append-seam, drop-append-seam, take-at, drop-at, take-all, take-nil, take-length, drop-length, drop-drop, getD-take, getD-drop, getD-append-add}
 use borrow.Rule.Slice.PartMut.{putMid, postOf, post-is}
-use Rattle.slices.specs.Slices.{_!_, placed}
+use Rattle.slices.specs.Slices.{_!_, tabulate, placed}
+use Rattle.slices.proofs.Tabulate.{tabulate-of}
 
 pub part-at : (a : List ℕ) (s e i : ℕ) → i < e - s → take (e - s) (drop s a) ! i ≡ a ! (s + i)
 part-at a s e i h = getD-take (e - s) (drop s a) i 0 h ∙ getD-drop s a i 0
@@ -27,6 +30,10 @@ part-rest l place k j hk hj = take-all k (drop place l) (short k hk) ∙ sym (ta
   where
     short : (i : ℕ) → length l ≤ place + i → length (drop place l) ≤ i
     short i h = rw (length-drop place l) (omega arith)
+
+-- a part is no longer than asked for
+pub part-most : (l p : List ℕ) (place k : ℕ) → p ≡ take k (drop place l) → length p ≤ k
+part-most l p place k is = rw (ap length is, length-take k (drop place l)) (omega arith)
 
 -- two lists of equal length with something behind each
 pub append-split : (p q s t : List ℕ) → length p ≡ length q → p ++ s ≡ q ++ t → (p ≡ q) × (s ≡ t)
@@ -51,6 +58,34 @@ put-inside a k xs ys i within h =
 pub copied-at : (src dst l : List ℕ) (k i : ℕ) → k ≡ length src → l ≡ take k src ++ drop k dst → i < length src → l ! i ≡ src ! i
 copied-at src dst l k i e copied h =
     ap (λ (s : List ℕ). s ! i) (copied ∙ ap (λ (s : List ℕ). s ++ drop k dst) (take-all k src (omega arith))) ∙ List·getD-append src (drop k dst) 0 i h
+
+-- k places, with a part copied over their front and zeros behind it
+pub copied-part : (s p l : List ℕ) (place k : ℕ) → p ≡ take k (drop place s) → l ≡ take (length p) p ++ drop (length p) (replicate k 0) →
+    l ≡ tabulate k (λ i. s ! (place + i))
+copied-part s p l place k is copied = tabulate-of l k _ long each
+  where
+    whole : l ≡ p ++ drop (length p) (replicate k 0)
+    whole = copied ∙ rw (take-length)
+
+    long : length l ≡ k
+    long = ap length whole ∙ simp (length-append, length-drop, length-replicate {A = ℕ} k 0) (omega (arith, part-most s p place k is))
+
+    behind : (i : ℕ) → i < k → length p ≤ i → (p ++ drop (length p) (replicate k 0)) ! i ≡ p ! i
+    behind i h beyond =
+        ap (λ (j : ℕ). (p ++ drop (length p) (replicate k 0)) ! j) (omega (arith, beyond)) ∙
+        getD-append-add p (drop (length p) (replicate k 0)) (i - length p) 0 ∙
+        getD-drop (length p) (replicate k 0) (i - length p) 0 ∙
+        getD-replicate {A = ℕ} k (length p + (i - length p)) 0 0 (omega arith) ∙
+        sym (List·getD-eq-default p 0 beyond)
+
+    each : (i : ℕ) → i < k → l ! i ≡ s ! (place + i)
+    each i h =
+        ap (λ (t : List ℕ). t ! i) whole ∙
+        elim (decLe (length p) i) [
+          | yes beyond ↦ behind i h beyond
+          | no inside ↦ List·getD-append p _ 0 i (lt-of-not-le inside)
+        ] ∙
+        ap (λ (t : List ℕ). t ! i) is ∙ getD-take k (drop place s) i 0 h ∙ getD-drop place s i 0
 
 -- a whole list is copied over
 pub copied-whole : (src dst l : List ℕ) → length src ≡ length dst → l ≡ take (length src) src ++ drop (length src) dst → l ≡ src

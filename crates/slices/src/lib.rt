@@ -12,27 +12,12 @@ pub fn byte_at(s: &[u8], i: usize) -> u8
     if i < s.len() { s[i] } else { 0 }
 }
 
-// The byte at i places behind `at`, and 0 beyond the end.
-pub fn byte_from(s: &[u8], at: usize, i: usize) -> u8
-    ensures { λ r. ⌜ r ≡ now (s .entry) ! (at + i) ⌝ }
-{
-    if at < s.len() {
-        if i < s.len() - at { s[at + i] } else { 0 }
-    } else {
-        0
-    }
-}
-
 // The 32 bytes from `at` on, zero beyond the end.
 pub fn bytes32(s: &[u8], at: usize) -> [u8; 32]
     ensures { λ r. ⌜ r ≡ tabulate 32 (λ i. now (s .entry) ! (at + i)) ⌝ }
 {
     let mut out = [0; 32];
-    let mut i = 0;
-    while i < 32 {
-        out[i] = byte_from(s, at, i);
-        i += 1;
-    }
+    bytes::copy(part(s, at, 32), &mut out);
     out
 }
 
@@ -57,14 +42,15 @@ pub fn equal<'a>(a: &'a [u8], b: &'a [u8]) -> bool
     if a.len() != b.len() {
         return false;
     }
+    let mut alike = true;
     let mut i = 0;
     while i < a.len() {
         if a[i] != b[i] {
-            return false;
+            alike = false;
         }
         i += 1;
     }
-    true
+    alike
 }
 
 // At most `count` bytes from `at` on: what there is of them.
