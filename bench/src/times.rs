@@ -63,7 +63,7 @@ pub fn compared(effort: Effort) -> String {
     let records = card.three_records(&mut random);
     let times = auditing(effort, &card, &records);
     let of_records = format!("3 records of {of_record}");
-    table.row(row("audit", &of_records, &times, "1.15"));
+    table.row(row("audit", &of_records, &times, "1.02"));
     table.text().to_string()
 }
 
