@@ -36,7 +36,7 @@ fn audited_refusal(scheme: Scheme, bytes: &[u8]) -> u8
     unless(byte_of(of_record) == byte_of(scheme), 1)
 }
 
-// 7 where two records differ in the header, the key or a commitment; it ends at the first difference.
+// 7 where two records differ in the header, the key or a commitment; it ends at the first of the three that differs.
 fn difference_refusal<'a>(a: &'a [u8], b: &'a [u8]) -> u8
     ensures { λ r. ⌜ r ≡ differenceRefusal (now (a .entry)) (now (b .entry)) ⌝ }
 {

@@ -35,7 +35,7 @@ pub fn same32(a: [u8; 32], b: [u8; 32]) -> bool
     true
 }
 
-// Whether two slices hold the same bytes.
+// Whether two slices hold the same bytes; with no early exit, so that many are compared at a time.
 pub fn equal<'a>(a: &'a [u8], b: &'a [u8]) -> bool
     ensures { λ r. ⌜ r ≡ same (now (a .entry)) (now (b .entry)) ⌝ }
 {
