@@ -96,7 +96,8 @@ uint8_t canvasfox_simulate(const uint8_t *system, size_t system_length,
 uint8_t canvasfox_record_read(const uint8_t *record, size_t record_length,
                               uint8_t *fields, size_t fields_length);
 
-/* The report on a system with a record behind it: a line for each round, then the verdict; or, where the input is
+/* The report on a system with a record behind it: a line for each round, which says accept or reject, then the
+ * verdict, then `rounds A accepted R rejected`, the counts of both kinds of round line; or, where the input is
  * refused, the one line `refused` with its number. Each line ends in a line feed. An input of more than 65,536
  * bytes is refused with 2.
  * text has 8,192 bytes, which hold the longest report. The text is written to its front, with no 0 behind it, and

@@ -117,7 +117,8 @@ pub fn record_read(record: &[u8]) -> Result<Fields, Refusal> {
     Refusal::or(number, fields)
 }
 
-/// The report on a system with a record behind it, or on why the two are refused.
+/// The report on a system with a record behind it: a line for each round, the verdict, then
+/// `rounds A accepted R rejected`; or the one line that says why the two are refused.
 pub fn report(input: &[u8]) -> String {
     let mut text = vec![0; TEXT];
     let length = slices::report(input, &mut text);

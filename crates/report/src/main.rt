@@ -1,4 +1,4 @@
-// Reads a system and then a record from standard input, and prints how each round was judged, and the verdict.
+// Reads a system and then a record from standard input, and prints how each round was judged, the verdict, and both totals.
 use libc::STDIN_FILENO;
 use libc::STDOUT_FILENO;
 use reporting::input_buffer;

@@ -1,2 +1,3 @@
--- Worked lines.
+-- Worked lines, and lines read back.
 pub mod Examples
+pub mod ReadLines

@@ -1,4 +1,4 @@
--- Document 01, "Report program": the lines of the report as bytes, ASCII codes.
+-- Document 01, "Report program", and document 02, Paper 1: the lines of the report as bytes, ASCII codes.
 use Prim.Native.Nat.{ℕ}
 use mathlib.Core.Bool.{Bool, cond}
 use mathlib.Core.List.{List, [], _∷_, _++_}
@@ -35,6 +35,18 @@ verdictStart = 118 ∷ 101 ∷ 114 ∷ 100 ∷ 105 ∷ 99 ∷ 116 ∷ 32 ∷ []
 unfoldable pub ofWord : List ℕ
 ofWord = 32 ∷ 111 ∷ 102 ∷ 32 ∷ []
 
+-- "rounds "
+unfoldable pub roundsWord : List ℕ
+roundsWord = 114 ∷ 111 ∷ 117 ∷ 110 ∷ 100 ∷ 115 ∷ 32 ∷ []
+
+-- " accepted "
+unfoldable pub acceptedWord : List ℕ
+acceptedWord = 32 ∷ 97 ∷ 99 ∷ 99 ∷ 101 ∷ 112 ∷ 116 ∷ 101 ∷ 100 ∷ 32 ∷ []
+
+-- " rejected"
+unfoldable pub rejectedWord : List ℕ
+rejectedWord = 32 ∷ 114 ∷ 101 ∷ 106 ∷ 101 ∷ 99 ∷ 116 ∷ 101 ∷ 100 ∷ []
+
 -- "refused "
 unfoldable pub refusedWord : List ℕ
 refusedWord = 114 ∷ 101 ∷ 102 ∷ 117 ∷ 115 ∷ 101 ∷ 100 ∷ 32 ∷ []
@@ -54,6 +66,10 @@ roundLine round challenge accepted =
 unfoldable pub verdictLine : ℕ → ℕ → List ℕ
 verdictLine accepted rounds =
     (verdictStart ++ verdictWord (eqb accepted rounds)) ++ (numbered spaceWord accepted ++ numbered ofWord rounds) ++ lineFeed
+
+-- Paper 1: "A third line follows the verdict: `rounds A accepted R rejected`"
+unfoldable pub totalsLine : ℕ → ℕ → List ℕ
+totalsLine accepted rejected = numbered roundsWord accepted ++ numbered acceptedWord rejected ++ rejectedWord ++ lineFeed
 
 -- "A refusal prints only `refused` and its number."
 unfoldable pub refusedLine : ℕ → List ℕ

@@ -1,4 +1,4 @@
--- Document 01, "Report program": the text for an input.
+-- Document 01, "Report program", and document 02, Paper 1: the text for an input.
 use Prim.Native.Nat.{ℕ, zero, suc, _+_}
 use mathlib.Core.Bool.{cond}
 use mathlib.Core.List.{List, [], _++_}
@@ -9,7 +9,8 @@ use Rattle.refusal.specs.Refusal.{unless, _orElse_}
 use Rattle.system.specs.System.{nOf, mOf, systemLength}
 use Rattle.record_form.specs.Record.{headerIn}
 use Rattle.transcript.specs.Transcript.{judgeRefusal, roundChallenge, acceptedRound, acceptedCount}
-use Rattle.report_lines.specs.ReportLines.{roundLine, verdictLine, refusedLine}
+use Rattle.report_lines.specs.ReportLines.{acceptWord, rejectWord, roundLine, verdictLine, totalsLine, refusedLine}
+use Rattle.report_lines.specs.ReadLines.{roundsWith}
 
 -- "Standard input holds a system and then a record": the system ends where its own q, n and m say
 unfoldable pub systemPart : List ℕ → List ℕ
@@ -27,9 +28,13 @@ unfoldable pub roundLines : List ℕ → List ℕ → ℕ → List ℕ
 roundLines system b zero = []
 roundLines system b (suc n) = roundLines system b n ++ roundLine (n + 1) (roundChallenge b n) (acceptedRound system b n)
 
--- a line for each round, then the verdict
+-- a line for each round, then the verdict; Paper 1: "A third line follows the verdict: `rounds A accepted R rejected`, where A and R count the round lines
+-- with each word."
 unfoldable pub judgedText : List ℕ → List ℕ → List ℕ
-judgedText system b = let n = headerIn b .rounds in roundLines system b n ++ verdictLine (acceptedCount system b n) n
+judgedText system b =
+    let n = headerIn b .rounds in
+    let rounds = roundLines system b n in
+    rounds ++ (verdictLine (acceptedCount system b n) n ++ totalsLine (roundsWith acceptWord rounds) (roundsWith rejectWord rounds))
 
 -- "A refusal prints only `refused` and its number."
 unfoldable pub reportText : List ℕ → List ℕ

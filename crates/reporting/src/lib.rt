@@ -6,6 +6,7 @@ use record::header_of;
 use refusal::unless;
 use report_lines::refused_line;
 use report_lines::round_line;
+use report_lines::totals_line;
 use report_lines::verdict_line;
 use slices::byte_at;
 use slices::part;
@@ -80,7 +81,7 @@ fn counted(accepted: u8, round_accepted: bool) -> u8
     }
 }
 
-// Judges every round: a line for each, then the verdict.
+// Judges every round: a line for each, then the verdict, then how many are accepted and how many rejected.
 fn judged<'a>(system: &'a [u8], bytes: &'a [u8], text: &mut [u8]) -> usize
     requires { ⌜ (systemRefusal (now system) ≡ 0) × (length (now text) ≡ 8192) ⌝ }
     ensures { λ r. ⌜ (now (text .exit) ≡ placed (now (text .entry)) 0 (judgedText (now (system .entry)) (now (bytes .entry))))
@@ -98,7 +99,8 @@ fn judged<'a>(system: &'a [u8], bytes: &'a [u8], text: &mut [u8]) -> usize
         accepted = counted(accepted, round_accepted);
         left -= 1;
     }
-    verdict_line(text, at, accepted, rounds)
+    let next = verdict_line(text, at, accepted, rounds);
+    totals_line(text, next, accepted, rounds - accepted)
 }
 
 // Writes the report on an input, and answers its length.

@@ -16,9 +16,9 @@ pub appended-both : (l s t : List ℕ) (place : ℕ) {k r : List ℕ} {next end 
 appended-both l s t place {k} {r} {next} room (ek, en) (er, ee) =
     (placed-append l k r s t place next (omega arith) en ek er, simp length-append (omega arith))
 
--- a line of at most 32 bytes in three pieces
-pub appended-line : (l s t u : List ℕ) (place : ℕ) {k j r : List ℕ} {next after end : ℕ} → next ≤ length l → after ≤ length l → end ≤ place + 32 →
-    Appended l k place next s → Appended k j next after t → Appended j r after end u → (r ≡ placed l place (s ++ t ++ u)) × (end ≡ place + length (s ++ t ++ u)) × (end ≤ place + 32)
-appended-line l s t u place room more short first second last =
+-- a line of at most so many bytes in three pieces
+pub appended-line : (most : ℕ) (l s t u : List ℕ) (place : ℕ) {k j r : List ℕ} {next after end : ℕ} → next ≤ length l → after ≤ length l → end ≤ place + most →
+    Appended l k place next s → Appended k j next after t → Appended j r after end u → (r ≡ placed l place (s ++ t ++ u)) × (end ≡ place + length (s ++ t ++ u)) × (end ≤ place + most)
+appended-line most l s t u place room more short first second last =
     let whole = appended-both l (s ++ t) u place more (appended-both l s t place room first second) last in
     (whole .0, whole .1, short)

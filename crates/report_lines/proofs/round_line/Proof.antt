@@ -23,4 +23,4 @@ round-line-spec =
     (λ c.
     let numbers = c .before .before .before .before .before .before .before .before .before .before .before .before .append-numbers .ensures in
     let verdict = c .before .before .before .before .before .before .before .append-verdict .ensures in
-    appended-line _ _ _ _ _ (omega arith) (omega arith) (omega arith) (numbers .0, numbers .1) (verdict .0, verdict .1) (c .before .before .append .ensures)))
+    appended-line 31 _ _ _ _ _ (omega arith) (omega arith) (omega arith) (numbers .0, numbers .1) (verdict .0, verdict .1) (c .before .before .append .ensures)))

@@ -23,4 +23,4 @@ verdict-line-spec =
     (λ c.
     let verdict = c .before .before .before .before .before .before .before .before .before .before .before .before .before .append-verdict .ensures in
     let numbers = c .before .before .before .before .before .before .before .append-numbers .ensures in
-    appended-line _ _ _ _ _ (omega arith) (omega arith) (omega arith) (verdict .0, verdict .1) (numbers .0, numbers .1) (c .before .before .append .ensures)))
+    appended-line 32 _ _ _ _ _ (omega arith) (omega arith) (omega arith) (verdict .0, verdict .1) (numbers .0, numbers .1) (c .before .before .append .ensures)))

@@ -1,6 +1,6 @@
--- A line a round, and the count of those that are accepted. Assumes nothing.
+-- A line a round, the count of those that are accepted, and the end behind them. Assumes nothing.
 use Prim.Native.Nat.{_-_, _+_, _≤_}
-use mathlib.Core.Path.{_≡_, ap}
+use mathlib.Core.Path.{_≡_, refl, ap}
 use native.Mathlib.Omega.{arith}
 use lib.ListN.{length}
 use Rattle.record_form.specs.declared.layout.Header.{Header}
@@ -51,10 +51,13 @@ judged-spec =
       lines-step _ _ _ _ _ _ _ _ _ _ _ (loop .inv .5) (c .before .before .before .before .before .before .before .before .before .before .before .before .before .pre .1) (omega arith) next (c .before .before .before .before .before .round-challenge .ensures) judged (line .ensures .0) (line .ensures .1) (line .ensures .2),
     ))
     (λ c κs. let written = c .before .before .loop .inv .5 .room in omega arith)
+    (λ c. omega arith)
+    (λ c κs. let written = c .before .before .before .before .before .before .loop .inv .5 .room in omega arith)
     (λ c. search needs)
     (λ c.
-    let line = c .before .before .verdict-line in
-    let loop = c .before .before .before .before .before .loop in
-    let rounds = c .before .before .before .before .before .before .header-of .result .rounds in
+    let totals = c .before .before .totals-line .ensures in
+    let verdict = c .before .before .before .before .before .before .verdict-line .ensures in
+    let loop = c .before .before .before .before .before .before .before .before .before .loop in
+    let rounds = c .before .before .before .before .before .before .before .before .before .before .header-of .result .rounds in
     let all : rounds - loop .left ≡ rounds = omega arith in
-    text-end _ _ _ _ _ _ _ _ _ _ (loop .inv .5) (c .before .before .before .before .before .before .before .before .before .before .pre .1) (omega arith) all (ap (λ (h : Header). h .rounds) (c .before .before .before .before .before .before .header-of .ensures)) (loop .inv .4) (line .ensures .0) (line .ensures .1) (line .ensures .2)))
+    text-end _ _ _ _ _ _ _ _ _ _ _ _ _ (loop .inv .5) (c .before .before .before .before .before .before .before .before .before .before .before .before .before .before .pre .1) (loop .inv .2) (omega arith) all (ap (λ (h : Header). h .rounds) (c .before .before .before .before .before .before .before .before .before .before .header-of .ensures)) (loop .inv .4) refl (verdict .0, verdict .1) (verdict .2) (totals .0, totals .1) (totals .2)))
