@@ -38,7 +38,7 @@ judge-passes system b k =
 report-passes : (system b : List ℕ) → Reportable system b → reportRefusal (system ++ b) ≡ 0
 unfolding reportRefusal
 report-passes system b k =
-    both-zero _ _ (unless-holds _ 2 (le-leb (length (system ++ b)) 65536 (simp length-append (k .together))))
+    both-zero _ _ (unless-holds _ 2 (le-leb (length (system ++ b)) 65536 (simp length-append (omega (arith, k .together)))))
     (ap₂ judgeRefusal (system-first system b (k .system-well-formed)) (record-behind system b (k .system-well-formed)) ∙ judge-passes system b k)
 
 pub reports : (system b : List ℕ) → Reportable system b → reportText (system ++ b) ≡ judgedText system b
