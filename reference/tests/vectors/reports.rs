@@ -117,32 +117,45 @@ fn ends() {
         let [accepted, rejected] = totals(&text);
         assert_eq!(accepted + rejected, rounds);
         let verdict = word(rejected == 0);
-        let end = [
-            format!("verdict {verdict} {accepted} of {rounds}"),
-            format!("rounds {accepted} accepted {rejected} rejected"),
-        ];
-        let lines: Vec<&str> = text.lines().collect();
-        assert_eq!(lines.len(), rounds + 2);
-        assert_eq!(lines[rounds..], end);
-        assert!(text.ends_with('\n') && text.len() <= 8_192);
+        let end = format!(
+            "\nverdict {verdict} {accepted} of {rounds}\n\
+             rounds {accepted} accepted {rejected} rejected\n"
+        );
+        assert!(text.ends_with(&end), "{end}");
+        assert_eq!(text.lines().count(), rounds + 2);
+        assert!(text.len() <= 8_192);
     }
 }
 
-/// Every refusal is stored, and verdicts of every sort: all rounds accepted, none, all but one.
+/// Verdicts of every sort: all rounds accepted, none, one, all but one, and in between; totals of
+/// one, two and three digits, each with each.
+const ENDS: [&str; 19] = [
+    "verdict accept 1 of 1\nrounds 1 accepted 0 rejected\n",
+    "verdict accept 100 of 100\nrounds 100 accepted 0 rejected\n",
+    "verdict accept 255 of 255\nrounds 255 accepted 0 rejected\n",
+    "verdict reject 0 of 1\nrounds 0 accepted 1 rejected\n",
+    "verdict reject 0 of 5\nrounds 0 accepted 5 rejected\n",
+    "verdict reject 4 of 5\nrounds 4 accepted 1 rejected\n",
+    "verdict reject 9 of 10\nrounds 9 accepted 1 rejected\n",
+    "verdict reject 99 of 100\nrounds 99 accepted 1 rejected\n",
+    "verdict reject 1 of 10\nrounds 1 accepted 9 rejected\n",
+    "verdict reject 0 of 10\nrounds 0 accepted 10 rejected\n",
+    "verdict reject 10 of 11\nrounds 10 accepted 1 rejected\n",
+    "verdict reject 10 of 20\nrounds 10 accepted 10 rejected\n",
+    "verdict reject 1 of 100\nrounds 1 accepted 99 rejected\n",
+    "verdict reject 100 of 110\nrounds 100 accepted 10 rejected\n",
+    "verdict reject 10 of 110\nrounds 10 accepted 100 rejected\n",
+    "verdict reject 100 of 255\nrounds 100 accepted 155 rejected\n",
+    "verdict reject 1 of 255\nrounds 1 accepted 254 rejected\n",
+    "verdict reject 254 of 255\nrounds 254 accepted 1 rejected\n",
+    "verdict reject 0 of 255\nrounds 0 accepted 255 rejected\n",
+];
+
+/// Every refusal is stored, and every sort of end.
 #[test]
 fn every_sort_of_text() {
     let texts: Vec<String> = cases(11).iter().map(expected).collect();
-    let ends = [
-        "verdict accept 1 of 1\nrounds 1 accepted 0 rejected\n",
-        "verdict accept 100 of 100\nrounds 100 accepted 0 rejected\n",
-        "verdict accept 255 of 255\nrounds 255 accepted 0 rejected\n",
-        "verdict reject 0 of 1\nrounds 0 accepted 1 rejected\n",
-        "verdict reject 0 of 5\nrounds 0 accepted 5 rejected\n",
-        "verdict reject 4 of 5\nrounds 4 accepted 1 rejected\n",
-        "verdict reject 9 of 10\nrounds 9 accepted 1 rejected\n",
-        "verdict reject 99 of 100\nrounds 99 accepted 1 rejected\n",
-    ];
-    for end in ends {
+    for end in ENDS {
         assert!(texts.iter().any(|text| text.ends_with(end)), "{end}");
     }
     for number in [1, 2, 3, 4, 6, 7] {
