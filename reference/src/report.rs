@@ -1,4 +1,4 @@
-//! Document 01, "Report program": the text for a system and a record.
+//! Document 01, "Report program", with document 02's paper 1: the text for a system and a record.
 
 use crate::record;
 use crate::refusal::{unless, Refusal};
@@ -38,7 +38,8 @@ fn judged(input: &[u8]) -> Result<Vec<Judged>, Refusal> {
     Ok(judged.collect())
 }
 
-/// A line for each round, then the verdict, which is accept only if every round is accepted.
+/// A line for each round, then the verdict, which is accept only if every round is accepted, then
+/// how many of the round lines say accept and how many reject.
 fn text(rounds: &[Judged]) -> String {
     let lines = (1..).zip(rounds).map(|(number, round)| {
         let Judged {
@@ -48,9 +49,11 @@ fn text(rounds: &[Judged]) -> String {
         format!("round {number} challenge {challenge} {}\n", word(*accepted))
     });
     let accepted = rounds.iter().filter(|round| round.accepted).count();
+    let rejected = rounds.iter().filter(|round| !round.accepted).count();
     let verdict = word(accepted == rounds.len());
-    let last = format!("verdict {verdict} {accepted} of {}\n", rounds.len());
-    lines.chain([last]).collect()
+    let verdict = format!("verdict {verdict} {accepted} of {}\n", rounds.len());
+    let totals = format!("rounds {accepted} accepted {rejected} rejected\n");
+    lines.chain([verdict, totals]).collect()
 }
 
 fn word(accepted: bool) -> &'static str {

@@ -1,4 +1,5 @@
-//! Document 01, "Report program": the printed case, verdicts, and refusals in order.
+//! Document 01, "Report program", with document 02's paper 1: the printed case, verdicts and totals,
+//! and refusals in order.
 
 use reference::commitment::commitments;
 use reference::entries::report;
@@ -32,19 +33,25 @@ fn worked(challenge: u8) -> Vec<u8> {
 
 #[test]
 fn printed_case() {
-    let text = report(&worked(2));
-    assert_eq!(text, "round 1 challenge 2 accept\nverdict accept 1 of 1\n");
+    let lines = "round 1 challenge 2 accept\n\
+                 verdict accept 1 of 1\n\
+                 rounds 1 accepted 0 rejected\n";
+    assert_eq!(report(&worked(2)), lines);
 }
 
 #[test]
 fn another_challenge() {
     let mut input = worked(1);
-    let text = report(&input);
-    assert_eq!(text, "round 1 challenge 1 accept\nverdict accept 1 of 1\n");
+    let lines = "round 1 challenge 1 accept\n\
+                 verdict accept 1 of 1\n\
+                 rounds 1 accepted 0 rejected\n";
+    assert_eq!(report(&input), lines);
     // The first byte of v: F(s) is another.
     input[13 + 30] = 4;
-    let text = report(&input);
-    assert_eq!(text, "round 1 challenge 1 reject\nverdict reject 0 of 1\n");
+    let lines = "round 1 challenge 1 reject\n\
+                 verdict reject 0 of 1\n\
+                 rounds 0 accepted 1 rejected\n";
+    assert_eq!(report(&input), lines);
 }
 
 /// Honest sessions are accepted; with a bit of ρ changed in some rounds exactly these are rejected.
@@ -62,16 +69,14 @@ fn verdicts() {
                 });
                 lines.collect::<String>()
             };
-            assert_eq!(
-                report(&session.input()),
-                text(&[]) + "verdict accept 12 of 12\n"
-            );
+            let end = "verdict accept 12 of 12\nrounds 12 accepted 0 rejected\n";
+            assert_eq!(report(&session.input()), text(&[]) + end);
             for bad in [0, 11, 5] {
                 let last = session.rounds[bad].reply.len() - 1;
                 session.rounds[bad].reply[last] ^= 4;
             }
-            let expected = text(&[0, 5, 11]) + "verdict reject 9 of 12\n";
-            assert_eq!(report(&session.input()), expected);
+            let end = "verdict reject 9 of 12\nrounds 9 accepted 3 rejected\n";
+            assert_eq!(report(&session.input()), text(&[0, 5, 11]) + end);
         }
     }
 }
@@ -142,7 +147,8 @@ fn lengths() {
     for scheme in SCHEMES {
         let session = Session::honest(&mut random, scheme, Shape::new(7, 2, 2), 255);
         let text = report(&session.input());
-        assert!(text.ends_with("\nverdict accept 255 of 255\n"));
-        assert_eq!(text.lines().count(), 256);
+        let end = "\nverdict accept 255 of 255\nrounds 255 accepted 0 rejected\n";
+        assert!(text.ends_with(end));
+        assert_eq!(text.lines().count(), 257);
     }
 }

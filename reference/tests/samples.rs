@@ -96,6 +96,6 @@ fn longest_input() {
     let lengths: Vec<usize> = reports.files.iter().map(|file| file.bytes.len()).collect();
     assert_eq!(lengths, [65_536, 65_537, 70_000]);
     let printed: Vec<&str> = reports.runs.iter().map(|(_, text)| &text[..]).collect();
-    assert!(printed[0].ends_with("verdict accept 4 of 4\n"));
+    assert!(printed[0].ends_with("verdict accept 4 of 4\nrounds 4 accepted 0 rejected\n"));
     assert_eq!(printed[1..], ["refused 2\n", "refused 2\n"]);
 }

@@ -8,6 +8,7 @@ use common::{perhaps_damage, scheme, shape, Tally};
 use reference::entries;
 use reference::random::Generator;
 use reference::record::BODIES;
+use reference::vectors::reporting::mixed;
 use reference::vectors::session::{header, patterned, Session};
 
 /// A record, valid: of honest rounds, or of no card's.
@@ -140,4 +141,32 @@ fn long_reports() {
         compare(&mut random, &mut tally, &input);
     }
     tally.has("long reports", &[0, 1, 2, 6], 2);
+}
+
+/// Sessions of any length, any of whose rounds are rejected: each total has one, two or three digits,
+/// and each pair of lengths comes up.
+#[test]
+fn totals() {
+    let mut random = Generator::from_seed(33);
+    let mut tally = Tally::default();
+    let mut lengths = Tally::default();
+    for _ in 0..400 {
+        let scheme = scheme(&mut random);
+        let shape = shape(&mut random, usize::MAX);
+        let rounds = 1 + random.byte_below(255);
+        let rejected = random.byte_below(u16::from(rounds) + 1);
+        let counts = [rounds - rejected, rejected];
+        let session = mixed(&mut random, scheme, shape, counts);
+        compare(&mut random, &mut tally, &session.input());
+        let [accepted, rejected] = counts.map(digits);
+        lengths.note(10 * accepted + rejected);
+    }
+    tally.has("totals", &[0], 400);
+    let pairs = [11, 12, 13, 21, 22, 23, 31, 32, 33];
+    lengths.has("lengths of totals", &pairs, 10);
+}
+
+/// How many digits a number has.
+fn digits(number: u8) -> u8 {
+    1 + u8::from(number >= 10) + u8::from(number >= 100)
 }

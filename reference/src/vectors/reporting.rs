@@ -1,4 +1,5 @@
-//! Cases for the report: document 01, "Report program" and the order of its refusals.
+//! Cases for the report: document 01, "Report program" and the order of its refusals; document 02's
+//! paper 1.
 
 use super::case::{Call, Group};
 use super::honest::{group, small_card, SMALL_ALPHA};
@@ -33,6 +34,7 @@ fn scheme_groups(scheme: Scheme) -> Vec<Group> {
         ("report small key", literal(&small_key(scheme))),
         ("report sizes", literal(&sizes(scheme))),
         ("report counts of rounds", literal(&counts(scheme))),
+        ("report totals", totals(scheme)),
         ("report rejected rounds", literal(&rejected(scheme))),
         ("report every byte changed", literal(&every_byte(scheme))),
         ("report every truncation", literal(&every_length(scheme))),
@@ -94,6 +96,42 @@ fn counts(scheme: Scheme) -> Vec<Vec<u8>> {
         sessions.push(session);
     }
     inputs(&sessions)
+}
+
+/// Accepted and rejected rounds at the edges of both totals' lengths, q in turn. Most long sessions
+/// are of five passes, which have fewer bytes. The last is of 255 rounds, none accepted.
+fn totals(scheme: Scheme) -> Vec<Piece> {
+    let mut random = Generator::from_seed(96);
+    let short = [[1, 9], [0, 10], [10, 1], [10, 10]];
+    let long: &[[u8; 2]] = match scheme {
+        Scheme::ThreePass => &[[100, 10]],
+        Scheme::FivePass => &[[1, 99], [10, 100], [100, 155], [1, 254], [254, 1]],
+    };
+    let orders = ORDERS.into_iter().cycle();
+    let counts = short.iter().chain(long).zip(orders);
+    let sessions = counts.map(|(&counts, q)| {
+        let shape = Shape::new(q, 1, 1);
+        mixed(&mut random, scheme, shape, counts)
+    });
+    let mut inputs = literal(&inputs(&sessions.collect::<Vec<Session>>()));
+    inputs.push(patterned(&mut random, scheme, Shape::new(251, 2, 2), 255));
+    inputs
+}
+
+/// So many accepted and so many rejected rounds, in any order.
+pub fn mixed(
+    random: &mut Generator,
+    scheme: Scheme,
+    shape: Shape,
+    [accepted, rejected]: [u8; 2],
+) -> Session {
+    let session = Session::honest(random, scheme, shape, accepted + rejected);
+    let rounds = 0..session.rounds.len();
+    let mut order: Vec<(u64, usize)> = rounds.map(|round| (random.word(), round)).collect();
+    order.sort_unstable();
+    let first = order.iter().take(rejected.into());
+    let rounds: Vec<usize> = first.map(|&(_, round)| round).collect();
+    spoiled(&session, &rounds, spoil_rho)
 }
 
 /// The same with these rounds changed.
@@ -192,7 +230,8 @@ fn largest(scheme: Scheme) -> Vec<Piece> {
     let mut random = Generator::from_seed(94);
     let mut inputs = Vec::new();
     for total in [MOST_OF_INPUT - 1, MOST_OF_INPUT, MOST_OF_INPUT + 1] {
-        inputs.push(patterned(&mut random, scheme, total));
+        let (shape, rounds) = shape_of_total(scheme, total);
+        inputs.push(patterned(&mut random, scheme, shape, rounds));
         inputs.push(Piece::repeated(&[0], total));
         let small = small(scheme, 0).input();
         inputs.push(Piece::repeated(&[1], total).overwritten(0, &small));
@@ -200,10 +239,10 @@ fn largest(scheme: Scheme) -> Vec<Piece> {
     inputs
 }
 
-/// A well-formed input of exactly so many bytes, in short form.
-fn patterned(random: &mut Generator, scheme: Scheme, total: usize) -> Piece {
-    let (shape, rounds) = shape_of_total(scheme, total);
+/// A well-formed input in short form, whose rounds are no card's.
+fn patterned(random: &mut Generator, scheme: Scheme, shape: Shape, rounds: u8) -> Piece {
     let layout = layout(header(scheme, shape, rounds));
+    let total = shape.length() + layout.length();
     let elements = Piece::repeated(&elements(random, layout), total);
     let with_head = elements.overwritten(0, &[shape.q, shape.n, shape.m]);
     laid(with_head, shape.length(), layout)
