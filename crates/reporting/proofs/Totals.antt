@@ -4,6 +4,7 @@ use mathlib.Core.Path.{_≡_, refl, sym, ap, _∙_}
 use mathlib.Core.Bool.{Bool, true, false, cond, true≢false}
 use mathlib.Core.List.{List, _++_}
 use mathlib.Core.Logic.{_↔_}
+use mathlib.Core.Option.{some}
 use native.Mathlib.Omega.{arith}
 use lib.Dec.{eqb}
 use borrow.Author.Tests.{eqb-true, eqb-false, eq-eqb, ne-eqb}
@@ -41,7 +42,7 @@ word-accepts k n r sum = (λ e. go (eqb k n) refl e, λ none. rw (eq-eqb k n (om
 
 word-rejects : (k n r : ℕ) → k + r ≡ n → (verdictWord (eqb k n) ≡ rejectWord) ↔ (r ≡ 0 → ⊥)
 unfolding verdictWord
-word-rejects k n r sum = (λ e. go (eqb k n) refl e, λ some. rw (ne-eqb k n (λ all. some (omega (arith, sum, all)))) refl)
+word-rejects k n r sum = (λ e. go (eqb k n) refl e, λ one. rw (ne-eqb k n (λ all. one (omega (arith, sum, all)))) refl)
   where
     go : (t : Bool) → eqb k n ≡ t → verdictWord t ≡ rejectWord → r ≡ 0 → ⊥
     go true is e none = two-words e
@@ -77,13 +78,13 @@ right-end system b few =
       verdict-words = words-spaced _ _ (verdict-words k n .of-words);
       accepts-when = rw R-above (word-accepts k n R (omega (arith, sum, count)));
       rejects-when = rw R-above (word-rejects k n R (omega (arith, sum, count)));
-      passed-is = read-decimal k (omega (arith, sum, count)) ∙ sym count ∙ sym A-above;
+      passed-is = read-decimal k (omega (arith, sum, count)) ∙ ap some (sym count ∙ sym A-above);
       of-all-is = read-decimal n (omega arith);
       accepted = decimal A;
       rejected = decimal R;
       totals-words = words-spaced _ _ (totals-words A R .of-words);
-      accepted-is = read-decimal A (omega (arith, sum)) ∙ sym A-above;
-      rejected-is = read-decimal R (omega (arith, sum)) ∙ sym R-above;
+      accepted-is = read-decimal A (omega (arith, sum)) ∙ ap some (sym A-above);
+      rejected-is = read-decimal R (omega (arith, sum)) ∙ ap some (sym R-above);
       sum-is = rw (A-above, R-above) sum;
     }
 
@@ -110,4 +111,4 @@ report-refused input other = go (eqb (reportRefusal input) 0) refl
   where
     go : (t : Bool) → eqb (reportRefusal input) 0 ≡ t → RefusedAlone (cond t (judgedText (systemPart input) (recordPart input)) (refusedLine (reportRefusal input)))
     go true none = absurd (other (systemPart input) (recordPart input) (joined input) (reportable input (eqb-true _ 0 none)))
-    go false some = refused-line-alone (reportRefusal input)
+    go false refused = refused-line-alone (reportRefusal input)

@@ -1,8 +1,9 @@
 -- Document 02, Paper 1: what the end of a report says, and when there is one. Said of the text's bytes alone, by the lines, words and numbers that are read
--- off them; how the report judges, counts and writes is not used.
+-- off them, and of the record by its layout; how the report judges, counts and writes is not used, but for the words `accept` and `reject` themselves.
 use Prim.Native.Nat.{ℕ, _+_, _≤_}
 use mathlib.Core.Path.{_≡_}
 use mathlib.Core.Logic.{_↔_}
+use mathlib.Core.Option.{some}
 use mathlib.Core.List.{List, [], _∷_, _++_}
 use lib.ListN.{length}
 use Rattle.text.specs.Reading.{lines, words, numberOf}
@@ -39,14 +40,14 @@ pub record RightEnd (text : List ℕ) (n : ℕ) : Type 0 where
   pub verdict-words : words verdict ≡ verdictName ∷ word ∷ passed ∷ ofName ∷ of-all ∷ []
   pub accepts-when : (word ≡ acceptWord) ↔ (roundsWith rejectWord text ≡ 0)
   pub rejects-when : (word ≡ rejectWord) ↔ (roundsWith rejectWord text ≡ 0 → ⊥)
-  pub passed-is : numberOf passed ≡ roundsWith acceptWord text
-  pub of-all-is : numberOf of-all ≡ n
+  pub passed-is : numberOf passed ≡ some (roundsWith acceptWord text)
+  pub of-all-is : numberOf of-all ≡ some n
   -- A and R
   pub accepted : List ℕ
   pub rejected : List ℕ
   pub totals-words : words totals ≡ roundsName ∷ accepted ∷ acceptedName ∷ rejected ∷ rejectedName ∷ []
-  pub accepted-is : numberOf accepted ≡ roundsWith acceptWord text
-  pub rejected-is : numberOf rejected ≡ roundsWith rejectWord text
+  pub accepted-is : numberOf accepted ≡ some (roundsWith acceptWord text)
+  pub rejected-is : numberOf rejected ≡ some (roundsWith rejectWord text)
   pub sum-is : roundsWith acceptWord text + roundsWith rejectWord text ≡ n
 
 -- "A refusal prints only `refused` and its number."

@@ -1,8 +1,9 @@
 -- A text read back: its lines, the words of a line, and the number that digits stand for. Said of any bytes, and by nothing that writes a text.
 use Prim.Native.Nat.{ℕ, _+_, _-_, _*_}
-use mathlib.Core.Bool.{Bool, false, cond, _||_}
+use mathlib.Core.Bool.{Bool, false, cond, _&&_, _||_}
+use mathlib.Core.Option.{Option, some, none}
 use mathlib.Core.List.{List, [], _∷_}
-use lib.Dec.{eqb}
+use lib.Dec.{eqb, leb}
 use Rattle.slices.specs.Slices.{same}
 
 -- a byte put before the first piece
@@ -33,10 +34,12 @@ unfoldable pub count : (List ℕ → Bool) → List (List ℕ) → ℕ
 count test [] = 0
 count test (l ∷ ls) = cond (test l) 1 0 + count test ls
 
--- the number that decimal digits stand for, behind the digits of k
-abbrev pub numberBehind : ℕ → List ℕ → ℕ
-numberBehind k [] = k
-numberBehind k (d ∷ l) = numberBehind (10 * k + (d - 48)) l
+-- the number that decimal digits stand for, behind the digits of k; none where a byte is no digit
+unfoldable pub numberBehind : ℕ → List ℕ → Option ℕ
+numberBehind k [] = some k
+numberBehind k (d ∷ l) = cond (leb 48 d && leb d 57) (numberBehind (10 * k + (d - 48)) l) none
 
-abbrev pub numberOf : List ℕ → ℕ
-numberOf word = numberBehind 0 word
+-- the number that a word stands for
+unfoldable pub numberOf : List ℕ → Option ℕ
+numberOf [] = none
+numberOf (d ∷ l) = numberBehind 0 (d ∷ l)
