@@ -23,4 +23,4 @@ totals-line-spec =
     (λ c.
     let numbers = c .before .before .before .before .before .before .before .before .before .before .before .before .append-numbers .ensures in
     let word = c .before .before .before .before .before .before .before .append .ensures in
-    appended-line 33 _ _ _ _ _ (omega arith) (omega arith) (omega arith) (numbers .0, numbers .1) word (c .before .before .append2 .ensures)))
+    appended-line 33 _ _ _ _ _ (omega arith) (omega arith) (omega arith) (numbers .0, numbers .1) (word .0, word .1) (c .before .before .append2 .ensures)))
