@@ -1,10 +1,12 @@
 // A case's head and its pieces: slices of bytes in short form, a pattern that is repeated, then
 // changed at single places.
+use slices::part;
 ghost use mathlib.Core.Path.{_≡_};
 ghost use Prim.Native.Nat.{_+_, _-_, _≤_, _<_};
-ghost use lib.ListN.{length, take, replicate};
+ghost use lib.ListN.{length, take, drop, replicate};
 ghost use Rattle.io.specs.Counts.{Counts};
-ghost use Rattle.cases.specs.Piece.{number as Piece·number, Placed};
+ghost use Rattle.slices.specs.Slices.{number};
+ghost use Rattle.cases.specs.Piece.{Placed};
 
 // The bytes of a case's head, of a piece's three numbers, and of a patch.
 const HEAD: usize = 3;
@@ -157,9 +159,9 @@ fn piece_at(file: &[u8], at: usize) -> Piece
     if left(file, at) < NUMBERS {
         return no_piece();
     }
-    let length = number(file, at);
-    let period = number(file, at + 4);
-    let count = number(file, at + 8);
+    let length = number_at(file, at);
+    let period = number_at(file, at + 4);
+    let count = number_at(file, at + 8);
     let pattern = at + NUMBERS;
     if file.len() - pattern < period {
         return no_piece();
@@ -187,16 +189,11 @@ fn no_piece() -> Piece
     }
 }
 
-// Four bytes as a number, the lowest first.
-pub fn number(file: &[u8], at: usize) -> usize
-    requires { ⌜ at + 4 ≤ length (now file) ⌝ }
-    ensures { λ r. ⌜ r ≡ Piece·number (now (file .entry)) at ⌝ }
-    ensures { λ r. ⌜ r < 4294967296 ⌝ }
+// The four bytes from `at` on as a number, the lowest first.
+pub fn number_at(file: &[u8], at: usize) -> usize
+    ensures { λ r. ⌜ (r ≡ number (take 4 (drop «at» (now (file .entry))))) × (r < 4294967296) ⌝ }
 {
-    wide(file[at])
-        + 256 * wide(file[at + 1])
-        + 65536 * wide(file[at + 2])
-        + 16777216 * wide(file[at + 3])
+    slices::number(part(file, at, 4)) as usize
 }
 
 pub fn wide(byte: u8) -> usize
@@ -238,7 +235,7 @@ fn patch(patches: &[u8], out: &mut [u8]) -> bool {
         if patches.len() - at < PATCH {
             return false;
         }
-        let offset = number(patches, at);
+        let offset = number_at(patches, at);
         if out.len() <= offset {
             return false;
         }

@@ -1,6 +1,6 @@
 // A run through a file: which case comes next, and the counts, printed group by group.
 use crate::piece::Small;
-use crate::piece::number;
+use crate::piece::number_at;
 use crate::piece::wide;
 use libc::STDOUT_FILENO;
 use std::num::wrapping_add_u64;
@@ -119,7 +119,7 @@ fn open(file: &[u8], at: usize, total: Tally) -> Run {
         return stopped(file, at);
     }
     let name_end = name + length;
-    let left = number(file, name_end);
+    let left = number_at(file, name_end);
     if left == 0 {
         return stopped(file, at);
     }

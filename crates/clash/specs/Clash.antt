@@ -6,7 +6,8 @@ use lib.Dec.{eqb}
 use Rattle.scheme.specs.declared.Scheme.{Scheme}
 use Rattle.scheme.specs.declared.Scheme.the-variants.{ThreePass, FivePass}
 use Rattle.scheme.specs.Scheme.{commitmentCount}
-use Rattle.transcript.specs.Transcript.{domainIn, firstWhere}
+use Rattle.transcript.specs.Transcript.{domainIn}
+use Rattle.refusal.specs.Refusal.{firstWhere}
 use Rattle.openings.specs.Openings.{stringIn, sameVectors}
 use Rattle.full_set.specs.FullSet.{answering}
 use Rattle.commitment.specs.Texts.{TextOf}

@@ -5,14 +5,14 @@ use mathlib.Core.List.{List}
 use lib.Dec.{eqb}
 use lib.ListN.{take}
 use Rattle.slices.specs.Slices.{same}
-use Rattle.refusal.specs.Refusal.{unless, _orElse_}
+use Rattle.refusal.specs.Refusal.{unless, _orElse_, firstWhere}
 use Rattle.system.specs.System.{systemRefusal}
 use Rattle.scheme.specs.declared.Scheme.{Scheme}
 use Rattle.scheme.specs.declared.Scheme.the-variants.{ThreePass, FivePass}
 use Rattle.scheme.specs.Scheme.{byteOf}
 use Rattle.record_form.specs.Record.{headerIn, fieldsIn}
 use Rattle.record.specs.Reader.{recordRefusal}
-use Rattle.transcript.specs.Transcript.{fitRefusal, acceptedRound, firstWhere}
+use Rattle.transcript.specs.Transcript.{fitRefusal, acceptedRound}
 use Rattle.comparable.specs.declared.Rejection.{Rejection}
 
 -- "each in turn 6 (size, edition), 1, 6 (table, length), then 3 or 4 ..; a scheme that the audit isn't for is 1"

@@ -2,7 +2,7 @@
 use Prim.Native.Nat.{ℕ}
 use mathlib.Core.List.{List, [], _∷_, _++_}
 use Rattle.commitment.specs.declared.Text.{Text}
-use Rattle.record_form.specs.Record.{word}
+use Rattle.slices.specs.Slices.{word}
 use Rattle.auditing.specs.declared.Finding.{Finding}
 use Rattle.auditing.specs.declared.Finding.the-variants.{Secret, Clash, Refused}
 use Rattle.auditing.specs.declared.Audited.{Audited}

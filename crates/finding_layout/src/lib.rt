@@ -2,8 +2,8 @@
 use auditing::Audited;
 use auditing::Finding;
 use commitment::Text;
-use record_form::word;
 use slices::put_both;
+use slices::word;
 ghost use mathlib.Core.Path.{_≡_};
 ghost use lib.ListN.{length};
 ghost use Rattle.finding_layout.specs.FindingLayout.{kindBytes, textBytes, findingBytes};

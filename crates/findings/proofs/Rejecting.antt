@@ -7,7 +7,7 @@ use native.Mathlib.Omega.{arith}
 use borrow.Author.Tests.{not-true, not-false}
 use Rattle.scheme.specs.declared.Scheme.the-variants.{ThreePass, FivePass}
 use Rattle.record_form.specs.Record.{headerIn}
-use Rattle.transcript.proofs.Search.{where-none, none-where, found-where}
+use Rattle.refusal.proofs.Search.{where-none, none-where, found-where}
 use Rattle.comparable.specs.declared.Rejection.{Rejection}
 use Rattle.comparable.specs.Comparable.{rejectedRound, rejectedIn, noRejection, ofFourth, laterRejection, rejectionOf}
 use Rattle.comparable.proofs.Rejections as R

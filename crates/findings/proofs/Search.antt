@@ -21,7 +21,7 @@ use Rattle.round.specs.Openings.{commitmentAt}
 use Rattle.record_form.specs.declared.layout.Header.{Header}
 use Rattle.record_form.specs.Record.{headerIn, commitmentsOf}
 use Rattle.transcript.specs.Transcript.{domainIn, keyVector, roundCommitments}
-use Rattle.transcript.proofs.Search.{FirstIs, where-none, found-where}
+use Rattle.refusal.proofs.Search.{FirstIs, where-none, found-where}
 use Rattle.comparable.specs.declared.Rejection.{Rejection}
 use Rattle.comparable.specs.Comparable.{comparableRefusal, rejectionOf}
 use Rattle.comparable.proofs.Passed.{Passed, passed, none-refused}

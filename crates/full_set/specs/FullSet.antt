@@ -7,7 +7,8 @@ use Rattle.slices.specs.Slices.{_!_, same}
 use Rattle.scheme.specs.declared.Scheme.{Scheme}
 use Rattle.scheme.specs.declared.Scheme.the-variants.{ThreePass, FivePass}
 use Rattle.record_form.specs.Record.{headerIn}
-use Rattle.transcript.specs.Transcript.{roundTurn, roundChallenge, firstWhere}
+use Rattle.transcript.specs.Transcript.{roundTurn, roundChallenge}
+use Rattle.refusal.specs.Refusal.{firstWhere}
 
 -- the first of three records whose challenge in round r is k, the last where it is no other's
 unfoldable pub answering : List ℕ → List ℕ → List ℕ → ℕ → ℕ → List ℕ

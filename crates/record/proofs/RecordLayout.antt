@@ -8,7 +8,7 @@ use lib.Dec.{leb}
 use lib.ListN.{length, take, drop, length-append, length-drop}
 use lib.Seq.{length-take-le, take-all, take-add, take-at, drop-at}
 use borrow.Author.Tests.{leb-true, le-leb, eq-eqb, eqb-true}
-use Rattle.slices.specs.Slices.{_!_, same}
+use Rattle.slices.specs.Slices.{_!_, same, word}
 use Rattle.slices.proofs.Sameness.{same-true, same-by}
 use Rattle.refusal.proofs.Refusals.{first-zero, later-zero, test-holds, equal-holds, both-zero, unless-holds}
 use Rattle.field.specs.Vector.{allBelow}
@@ -17,7 +17,7 @@ use Rattle.scheme.proofs.Bytes.{decoded, is-scheme}
 use Rattle.field.proofs.Elements.{all-below-at, at-all-below}
 use Rattle.record_form.specs.declared.layout.Header.{Header}
 use Rattle.record_form.specs.declared.form.Check.the-variants.{FileOrder}
-use Rattle.record_form.specs.Record.{commitmentsBody, exchangesBody, layoutOf, recordLength, word, entry, table, head, Fields, written, Valid, WellFormedRecord}
+use Rattle.record_form.specs.Record.{commitmentsBody, exchangesBody, layoutOf, recordLength, entry, table, head, Fields, written, Valid, WellFormedRecord}
 use Rattle.record_form.specs.Record.{headerIn, bodyIn, fieldsIn}
 use Rattle.record_form.specs.Form.{areValues, exchangesRefusal}
 use Rattle.record.specs.Reader.{recordRefusal}

@@ -5,10 +5,10 @@ use cases::Small;
 use record::Reading;
 use record_form::Body;
 use record_form::Layout;
-use record_form::word;
 use scheme::byte_of;
 use slices::equal;
 use slices::part;
+use slices::word;
 
 // How many bytes an answer has, and how many of them a body's entry.
 const ANSWER: usize = 30;

@@ -9,12 +9,13 @@ use native.Mathlib.Decide.{decLe}
 use native.Mathlib.Omega.{arith}
 use lib.ListN.{length, take, drop, length-append, length-drop}
 use lib.Seq.{length-take-le, take-all, take-add, take-at, drop-at, getD-at, take-take, take-append-le, drop-append-le, append-snoc, split-at}
-use Rattle.slices.specs.Slices.{_!_}
+use Rattle.slices.specs.Slices.{_!_, joined}
+use Rattle.slices.proofs.Joined.{joined-pieces, length-joined, joined-at, joined-same, piece-long}
 use Rattle.scheme.specs.Scheme as S
 use Rattle.record_form.specs.declared.layout.Header.{Header}
 use Rattle.record_form.specs.Record.{Fields, Elements, commitmentsBody, exchangeLength, exchangesBody, Valid, ValidExchange}
 use Rattle.record_form.specs.Record.{commitmentsOf, exchangeOf, turnOf, challengeOf, replyOf, replyVectors}
-use Rattle.record_form.specs.Rounds.{Round, exchangeBytes, joined, fieldsOfRounds, ValidRound, ValidRounds, roundOf}
+use Rattle.record_form.specs.Rounds.{Round, exchangeBytes, fieldsOfRounds, ValidRound, ValidRounds, roundOf}
 use Rattle.record_form.proofs.ValidForm.{values, values-true, header-values-of}
 
 -- ---- an exchange
@@ -70,45 +71,6 @@ module _ (h : Header) (x : Round) (v : ValidRound h x) where
         reply-elements = subst (Elements (h .q)) (sym vectors-of) (v .reply-elements);
       }
 
--- ---- a body
-
--- the first n of the parts of a list are its front
-joined-front : (each n : ℕ) (l : List ℕ) → joined n (λ r. take each (drop (r * each) l)) ≡ take (n * each) l
-unfolding joined
-joined-front each zero l = ap (λ (k : ℕ). take k l) (sym (zero-mul each))
-joined-front each (suc n) l =
-    ap (λ (s : List ℕ). s ++ take each (drop (n * each) l)) (joined-front each n l) ∙ sym (take-add (n * each) each l) ∙
-    ap (λ (k : ℕ). take k l) (sym (suc-mul n each))
-
--- every body of the right length is its parts, one behind the other
-pub body-is-parts : (each n : ℕ) (l : List ℕ) → length l ≡ n * each → joined n (λ r. take each (drop (r * each) l)) ≡ l
-body-is-parts each n l long = joined-front each n l ∙ take-all (n * each) l (omega (arith, long))
-
-pub length-joined : (each n : ℕ) (part : ℕ → List ℕ) → ((r : ℕ) → r < n → length (part r) ≡ each) → length (joined n part) ≡ n * each
-unfolding joined
-length-joined each zero part long = sym (zero-mul each)
-length-joined each (suc n) part long =
-    length-append (joined n part) (part n) ∙
-    ap₂ _+_ (length-joined each n part (λ r h. long r (omega arith))) (long n (omega arith)) ∙ sym (suc-mul n each)
-
--- part r of a body that was made of parts is that part
-pub joined-at : (each n : ℕ) (part : ℕ → List ℕ) → ((r : ℕ) → r < n → length (part r) ≡ each) → (r : ℕ) → r < n → take each (drop (r * each) (joined n part)) ≡ part r
-unfolding joined
-joined-at each zero part long r h = absurd (omega arith)
-joined-at each (suc n) part long r h =
-    let before = length-joined each n part (λ i b. long i (omega arith)) in
-    elim (decLe n r) [
-      | yes last ↦
-          let is : r ≡ n = omega arith in
-          rw is (ap (take each) (drop-at (joined n part) (part n) (n * each) before) ∙ take-all each (part n) (omega (arith, long n (omega arith))))
-      | no earlier ↦
-          let below : r < n = lt-of-not-le earlier in
-          let room : (r + 1) * each ≤ n * each = mul-le-mul-right each (omega arith) in
-          ap (take each) (drop-append-le (r * each) (joined n part) (part n) (omega (arith, before, room))) ∙
-          take-append-le each (drop (r * each) (joined n part)) (part n) (rw (length-drop (r * each) (joined n part)) (omega (arith, before, room))) ∙
-          joined-at each n part (λ i b. long i (omega arith)) r below
-    ]
-
 -- ---- the fields of rounds
 
 module _ (h : Header) (key : List ℕ) (round : ℕ → Round) (v : ValidRounds h key round) where
@@ -152,31 +114,20 @@ module _ (h : Header) (key : List ℕ) (round : ℕ → Round) (v : ValidRounds 
 
 -- ---- the rounds of fields
 
-joined-same : (n : ℕ) (part other : ℕ → List ℕ) → ((r : ℕ) → r < n → part r ≡ other r) → joined n part ≡ joined n other
-unfolding joined
-joined-same zero part other same = refl
-joined-same (suc n) part other same = ap₂ (λ (s t : List ℕ). s ++ t) (joined-same n part other (λ r h. same r (omega arith))) (same n (omega arith))
-
--- a part of a body has its length
-part-long : (each n : ℕ) (l : List ℕ) (r : ℕ) → length l ≡ n * each → r < n → length (take each (drop (r * each) l)) ≡ each
-part-long each n l r long below =
-    let room : (r + 1) * each ≤ n * each = mul-le-mul-right each (omega arith) in
-    length-take-le each (drop (r * each) l) (rw (length-drop (r * each) l) (omega (arith, long, room)))
-
 module _ (f : Fields) (v : Valid f) where
   exchange-long : (r : ℕ) → r < f .header .rounds → length (exchangeOf (f .header) (f .exchanges) r) ≡ exchangeLength (f .header)
   unfolding exchangeOf exchangesBody
-  exchange-long r below = part-long (exchangeLength (f .header)) (f .header .rounds) (f .exchanges) r (v .exchanges-length) below
+  exchange-long r below = piece-long (exchangeLength (f .header)) (f .header .rounds) (f .exchanges) r (v .exchanges-length) below
 
   commitments-whole : joined (f .header .rounds) (λ r. roundOf f r .commitments) ≡ f .commitments
   unfolding roundOf commitmentsOf commitmentsBody
-  commitments-whole = body-is-parts (S.commitmentsLength (f .header .scheme)) (f .header .rounds) (f .commitments) (v .commitments-length)
+  commitments-whole = joined-pieces (S.commitmentsLength (f .header .scheme)) (f .header .rounds) (f .commitments) (v .commitments-length)
 
   exchanges-whole : joined (f .header .rounds) (λ r. exchangeBytes (roundOf f r)) ≡ f .exchanges
   unfolding roundOf exchangeBytes exchangeOf exchangesBody
   exchanges-whole =
       joined-same (f .header .rounds) _ _ (λ r below. exchange-is-parts (f .header) _ (exchange-long r below)) ∙
-      body-is-parts (exchangeLength (f .header)) (f .header .rounds) (f .exchanges) (v .exchanges-length)
+      joined-pieces (exchangeLength (f .header)) (f .header .rounds) (f .exchanges) (v .exchanges-length)
 
   -- valid fields are those of their rounds
   pub fields-of : fieldsOfRounds (f .header) (f .key) (roundOf f) ≡ f
@@ -193,7 +144,7 @@ module _ (f : Fields) (v : Valid f) where
       let long = exchange-long r below in
       let valid = v .each-exchange r below in
       record {
-        commitments-length = part-long (S.commitmentsLength (h .scheme)) (h .rounds) (f .commitments) r (v .commitments-length) below;
+        commitments-length = piece-long (S.commitmentsLength (h .scheme)) (h .rounds) (f .commitments) r (v .commitments-length) below;
         turn-length = length-take-le k x (omega (arith, long));
         reply-length = length-take-le n (drop (k + 1) x) (rw (length-drop (k + 1) x) (omega (arith, long)));
         turn-elements = valid .turn-elements;

@@ -1,10 +1,10 @@
 -- Document 01, "Session record": the layout, and what a well-formed record is.
-use Prim.Native.Nat.{ℕ, _+_, _*_, _/_, _%_, _≤_, _<_}
+use Prim.Native.Nat.{ℕ, _+_, _*_, _≤_, _<_}
 use mathlib.Core.Path.{_≡_}
 use mathlib.Core.Bool.{true}
 use mathlib.Core.List.{List, [], _∷_, _++_}
 use lib.ListN.{length, take, drop}
-use Rattle.slices.specs.Slices.{_!_}
+use Rattle.slices.specs.Slices.{_!_, word}
 use Rattle.field.specs.Ops.{isField}
 pub use Rattle.field.specs.Vector.{Elements}
 use Rattle.scheme.specs.Scheme as S
@@ -43,11 +43,7 @@ recordLength h = 30 + h .m + commitmentsBody h + exchangesBody h
 
 -- ---- bytes
 
--- "each 4 bytes, low byte first"
-unfoldable pub word : ℕ → List ℕ
-word k = k % 256 ∷ k / 256 % 256 ∷ k / 65536 % 256 ∷ k / 16777216 % 256 ∷ []
-
--- "offset and length"
+-- "offset and length, each 4 bytes, low byte first"
 unfoldable pub entry : Body → List ℕ
 entry b = word (b .offset) ++ word (b .length)
 

@@ -1,9 +1,10 @@
 -- A record by its rounds: the messages of each one behind the other are its bodies. A round is counted from 0.
-use Prim.Native.Nat.{ℕ, zero, suc, _<_}
+use Prim.Native.Nat.{ℕ, _<_}
 use mathlib.Core.Path.{_≡_}
 use mathlib.Core.Bool.{true}
-use mathlib.Core.List.{List, [], _∷_, _++_}
+use mathlib.Core.List.{List, _∷_, _++_}
 use lib.ListN.{length, take}
+use Rattle.slices.specs.Slices.{joined}
 use Rattle.scheme.specs.Scheme as S
 use Rattle.record_form.specs.declared.layout.Header.{Header}
 use Rattle.record_form.specs.Record.{Fields, Elements, exchangeOf, commitmentsOf, turnOf, challengeOf, replyOf}
@@ -19,11 +20,6 @@ pub record Round : Type 0 where
 -- "Exchange: scheme 3, challenge byte and reply; scheme 5, α, t1, e1, challenge byte, reply."
 unfoldable pub exchangeBytes : Round → List ℕ
 exchangeBytes x = x .turn ++ x .challenge ∷ x .reply
-
--- n lists one behind the other: part 0, part 1, .., part (n - 1)
-unfoldable pub joined : ℕ → (ℕ → List ℕ) → List ℕ
-joined zero part = []
-joined (suc n) part = joined n part ++ part n
 
 -- the fields of a record of these rounds: "Commitments: 32 bytes each, 3 or 2 a round.", then the exchanges
 unfoldable pub fieldsOfRounds : Header → List ℕ → (ℕ → Round) → Fields

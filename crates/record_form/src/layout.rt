@@ -6,10 +6,11 @@ use scheme::of_rounds;
 use scheme::scheme_of;
 use slices::put;
 use slices::put_both;
+use slices::word;
 ghost use mathlib.Core.Path.{_≡_};
 ghost use Prim.Native.Nat.{_+_, _≤_};
 ghost use lib.ListN.{length};
-ghost use Rattle.record_form.specs.Record.{headerOf, layoutOf, recordLength, word as wordOf, entry as entryOf, table as tableOf};
+ghost use Rattle.record_form.specs.Record.{headerOf, layoutOf, recordLength, entry as entryOf, table as tableOf};
 
 // The values that stand behind the edition.
 pub struct Header {
@@ -80,18 +81,6 @@ pub fn record_length(h: Header) -> usize
 {
     let last = laid_out(h).exchanges;
     last.offset + last.length
-}
-
-// A number as four bytes, the lowest first.
-pub fn word(k: usize) -> [u8; 4]
-    ensures { λ r. ⌜ (r ≡ wordOf k) × (length r ≡ 4) ⌝ }
-{
-    [
-        (k % 256) as u8,
-        (k / 256 % 256) as u8,
-        (k / 65536 % 256) as u8,
-        (k / 16777216 % 256) as u8,
-    ]
 }
 
 // An entry of the table: offset and length.

@@ -12,4 +12,3 @@ pub use layout::header_from;
 pub use layout::laid_out;
 pub use layout::record_length;
 pub use layout::table;
-pub use layout::word;

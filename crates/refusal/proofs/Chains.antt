@@ -16,6 +16,11 @@ goes-on a rest x y is zeroed later = later ∙ sym (later-decides a rest (sym is
 
 -- ---- over an index
 
+-- none at the start
+pub none-at-start : (refusal : ℕ → ℕ) (i : ℕ) → i ≡ 0 → firstOf i refusal ≡ 0
+unfolding firstOf
+none-at-start refusal i start = rw start refl
+
 -- none of the first: none before, and not this one
 pub none-so-far : (refusal : ℕ → ℕ) (i next x : ℕ) → firstOf i refusal ≡ 0 → x ≡ refusal i → x ≡ 0 → next ≡ i + 1 → firstOf next refusal ≡ 0
 none-so-far refusal i next x none is zeroed later = rw later (sym (firstOf-step refusal i 0 x (sym none) is) ∙ both-zero 0 x refl zeroed)
@@ -32,3 +37,7 @@ first-here refusal (suc n) i x none is some below =
 
     earlier : x ≡ firstOf n refusal → x ≡ (firstOf n refusal orElse refusal n)
     earlier found = ends-here (firstOf n refusal) (refusal n) x found some
+
+-- none of all
+pub none-at-end : (refusal : ℕ → ℕ) (n i : ℕ) → firstOf i refusal ≡ 0 → i ≡ n → 0 ≡ firstOf n refusal
+none-at-end refusal n i none same = sym (rw (sym same) none)

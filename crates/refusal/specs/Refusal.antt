@@ -1,5 +1,5 @@
 -- Refusals as numbers, 0 for none, in document 01's order: the first that applies is the answer.
-use Prim.Native.Nat.{ℕ, zero, suc}
+use Prim.Native.Nat.{ℕ, zero, suc, _+_}
 use mathlib.Core.Bool.{Bool, cond}
 use lib.Dec.{eqb}
 
@@ -16,6 +16,11 @@ first orElse later = cond (eqb first 0) later first
 unfoldable pub firstOf : ℕ → (ℕ → ℕ) → ℕ
 firstOf zero refusal = 0
 firstOf (suc n) refusal = firstOf n refusal orElse refusal n
+
+-- the first i below n for which the test holds, counted from 1; 0 where there is none
+unfoldable pub firstWhere : ℕ → (ℕ → Bool) → ℕ
+firstWhere zero test = 0
+firstWhere (suc n) test = firstWhere n test orElse cond (test n) (n + 1) 0
 
 -- what is refused stays as it was
 unfoldable pub kept : {A : Type 0} → ℕ → A → A → A

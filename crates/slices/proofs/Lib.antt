@@ -1,5 +1,7 @@
--- Laws of lists of bytes: what stands where, parts, equal lists, tests in a row.
+-- Laws of lists of bytes: what stands where, parts, equal pieces, equal lists, numbers of four bytes, tests in a row.
 pub mod Booleans
 pub mod Tabulate
 pub mod Parts
 pub mod Sameness
+pub mod Joined
+pub mod Words

@@ -1,9 +1,10 @@
-// Slices of bytes by place: reading, total and 0 beyond the end; comparing; and putting pieces into a lent slice.
+// Slices of bytes by place: reading, total and 0 beyond the end; comparing; putting pieces into a lent slice; and numbers of
+// four bytes.
 ghost use mathlib.Core.Path.{_≡_};
-ghost use Prim.Native.Nat.{_+_, _≤_};
+ghost use Prim.Native.Nat.{_+_, _≤_, _<_};
 ghost use mathlib.Core.List.{_++_};
 ghost use lib.ListN.{length, take, drop};
-ghost use Rattle.slices.specs.Slices.{_!_, tabulate, same, placed};
+ghost use Rattle.slices.specs.Slices.{_!_, tabulate, same, placed, word as wordOf, number as numberOf};
 
 // The byte at place i, and 0 beyond the end.
 pub fn byte_at(s: &[u8], i: usize) -> u8
@@ -82,4 +83,26 @@ pub fn put_both<'a>(out: &mut [u8], a: &'a [u8], b: &'a [u8])
 {
     put(out, 0, a);
     put(out, a.len(), b);
+}
+
+// A number as four bytes, the lowest first.
+pub fn word(k: usize) -> [u8; 4]
+    ensures { λ r. ⌜ (r ≡ wordOf k) × (length r ≡ 4) ⌝ }
+{
+    [
+        (k % 256) as u8,
+        (k / 256 % 256) as u8,
+        (k / 65536 % 256) as u8,
+        (k / 16777216 % 256) as u8,
+    ]
+}
+
+// The number that the first four bytes are, 0 for those beyond the end.
+pub fn number(s: &[u8]) -> u32
+    ensures { λ r. ⌜ r ≡ numberOf (now (s .entry)) ⌝ }
+{
+    byte_at(s, 0) as u32
+        + 256 * (byte_at(s, 1) as u32)
+        + 65536 * (byte_at(s, 2) as u32)
+        + 16777216 * (byte_at(s, 3) as u32)
 }

@@ -63,8 +63,3 @@ acceptedRound system b r =
 unfoldable pub acceptedCount : List ℕ → List ℕ → ℕ → ℕ
 acceptedCount system b zero = 0
 acceptedCount system b (suc n) = acceptedCount system b n + cond (acceptedRound system b n) 1 0
-
--- the first i below n for which the test holds, counted from 1; 0 where there is none
-unfoldable pub firstWhere : ℕ → (ℕ → Bool) → ℕ
-firstWhere zero test = 0
-firstWhere (suc n) test = firstWhere n test orElse cond (test n) (n + 1) 0

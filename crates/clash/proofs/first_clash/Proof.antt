@@ -6,8 +6,8 @@ use mathlib.Core.List.{List}
 use native.Mathlib.Omega.{arith}
 use Rattle.scheme.specs.declared.Scheme.{Scheme}
 use Rattle.scheme.specs.Scheme.{commitmentCount}
-use Rattle.transcript.specs.Transcript.{firstWhere}
-use Rattle.transcript.proofs.Search.{where-start, where-step, where-here, where-end}
+use Rattle.refusal.specs.Refusal.{firstWhere}
+use Rattle.refusal.proofs.Search.{where-start, where-step, where-here, where-end}
 use Rattle.clash.specs.Clash.{samePair, firstClash}
 use borrow.Author.Needs.{needs}
 use Rattle.clash.proofs.first_clash.Statement.{statement}

@@ -6,8 +6,9 @@ use mathlib.Core.List.{List}
 use native.Mathlib.Omega.{arith}
 use Rattle.record_form.specs.declared.layout.Header.{Header}
 use Rattle.record_form.specs.Record.{headerIn}
-use Rattle.transcript.specs.Transcript.{acceptedRound, firstWhere}
-use Rattle.transcript.proofs.Search.{where-start, where-step, where-here, where-end}
+use Rattle.transcript.specs.Transcript.{acceptedRound}
+use Rattle.refusal.specs.Refusal.{firstWhere}
+use Rattle.refusal.proofs.Search.{where-start, where-step, where-here, where-end}
 use Rattle.comparable.specs.Comparable.{rejectedRound}
 use borrow.Author.Needs.{needs}
 use Rattle.comparable.proofs.rejected_round.Statement.{statement}

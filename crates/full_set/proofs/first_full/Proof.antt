@@ -6,8 +6,8 @@ use native.Mathlib.Omega.{arith}
 use Rattle.scheme.specs.declared.Scheme.{Scheme}
 use Rattle.record_form.specs.declared.layout.Header.{Header}
 use Rattle.record_form.specs.Record.{headerIn}
-use Rattle.transcript.specs.Transcript.{firstWhere}
-use Rattle.transcript.proofs.Search.{where-start, where-step, where-here, where-end}
+use Rattle.refusal.specs.Refusal.{firstWhere}
+use Rattle.refusal.proofs.Search.{where-start, where-step, where-here, where-end}
 use Rattle.full_set.specs.FullSet.{fullSet, firstFull}
 use borrow.Author.Needs.{needs}
 use Rattle.full_set.proofs.first_full.Statement.{statement}

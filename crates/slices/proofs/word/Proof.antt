@@ -1,9 +1,9 @@
 -- By computation. Assumes nothing.
 use mathlib.Core.Path.{refl}
-use Rattle.record_form.specs.Record.{word}
+use Rattle.slices.specs.Slices.{word}
 use borrow.Author.Needs.{needs}
-use Rattle.record_form.proofs.layout.word.Statement.{statement}
-use Rattle.record_form.proofs.layout.word.Tie as tie
+use Rattle.slices.proofs.word.Statement.{statement}
+use Rattle.slices.proofs.word.Tie as tie
 
 pub word-spec : {M : Type 1} → statement M
 unfolding word

@@ -5,8 +5,8 @@ use mathlib.Core.Bool.{Bool, true, false, cond}
 use mathlib.Core.Logic.{⊎-elim}
 use native.Mathlib.Nat.{not-suc-le-zero, eq-or-lt-of-le, le-of-suc-le-suc, le-refl}
 use native.Mathlib.Omega.{arith}
 use Rattle.refusal.proofs.Refusals.{first-zero, later-zero, both-zero, first-decides, later-decides}
-use Rattle.transcript.specs.Transcript.{firstWhere}
+use Rattle.refusal.specs.Refusal.{firstWhere}
 
 -- the test fails for every number below n
 abbrev pub Nowhere : ℕ → (ℕ → Bool) → Type 0

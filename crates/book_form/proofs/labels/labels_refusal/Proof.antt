@@ -1,0 +1,33 @@
+-- The invariant: none of the labels before i is refused. Assumes nothing.
+use Prim.Native.Nat.{_-_, _≤_, _<_}
+use mathlib.Core.Path.{_≡_, refl, sym}
+use native.Mathlib.Omega.{arith}
+use borrow.Author.Needs.{needs}
+use Rattle.refusal.specs.Refusal.{firstOf}
+use Rattle.refusal.proofs.Refusals.{firstOf-zero}
+use Rattle.refusal.proofs.Chains.{none-so-far, first-here, none-at-end}
+use Rattle.book_form.specs.Labels.{labelRefusal, labelsRefusal}
+use borrow.Author.Needs.{needs}
+use Rattle.book_form.proofs.labels.labels_refusal.Statement.{statement}
+use Rattle.book_form.proofs.labels.labels_refusal.Tie as tie
+
+abbrev Inv-loop : tie.InvT-loop
+Inv-loop bytes each count i₀ i = (firstOf i (labelRefusal each bytes) ≡ 0) × (i ≤ count) × (count < 4294967296)
+
+abbrev μ-loop : tie.MeasureT-loop
+μ-loop bytes each count i₀ i = count - i
+
+pub labels-refusal-spec : {M : Type 1} → statement M
+unfolding labelsRefusal
+labels-refusal-spec =
+    tie.close
+    (tie.spec
+    Inv-loop
+    μ-loop
+    (λ c. (sym (firstOf-zero _), omega arith, omega arith))
+    (λ c κs. search needs)
+    (λ c. first-here _ _ _ _ (c .before .before .before .loop .inv .0) (c .before .label-refusal .ensures) (c .if1 .taken) (c .before .before .loop-test .taken))
+    (λ c. omega arith)
+    (λ c. omega arith)
+    (λ c. (none-so-far _ _ _ _ (c .before .before .before .loop .inv .0) (c .before .label-refusal .ensures) (c .if1 .left) refl, omega arith, omega arith))
+    (λ c. none-at-end _ _ _ (c .before .loop .inv .0) (omega arith)))

@@ -1,0 +1,3 @@
+-- The round trip of writer and reader, and a table that is put entry by entry.
+pub mod BookTrip
+pub mod Table
