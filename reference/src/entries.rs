@@ -14,7 +14,7 @@ use crate::report;
 use crate::scheme::Scheme;
 use crate::sha256::{sha256, DIGEST};
 use crate::simulator::{self, Simulation};
-use crate::system::{System, MOST};
+use crate::system::System;
 use crate::vector::all_elements;
 
 /// The longest message that SHA-256 takes here.
@@ -24,7 +24,7 @@ pub const LONGEST_MESSAGE: usize = 65_535;
 pub const ABSENT: u8 = 255;
 
 /// A key by value: m bytes, and zeros.
-pub const KEY: usize = MOST as usize;
+pub const KEY: usize = 96;
 
 /// Is this a well-formed system? 0 if it is.
 pub fn check(system: &[u8]) -> u8 {
