@@ -2,8 +2,8 @@
 //!
 //! Document 01, "Refused because of the state", has their order: the system first, then the
 //! arguments left to right, all 1, all 2, all 3, then 4. Outputs count as arguments with an exact
-//! length. A refused call leaves its outputs unchanged. `record::read`, `report`, `audit` and the calls
-//! for books have orders of their own.
+//! length. A refused call leaves its outputs unchanged. `record::read`, `report`, `audit` and the
+//! calls for books have orders of their own.
 
 use crate::book::{self, Book, Head, HEAD};
 use crate::label::{Label, LABEL};

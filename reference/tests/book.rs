@@ -1,13 +1,15 @@
 //! Document 02, "Paper 2": labels and their order; what the writer of books makes, the reader takes
 //! and the lookup finds, and their refusals in order.
 
-use reference::entries::{look_up, read_book, write_book, WriteBook, ABSENT};
+use reference::entries::{evaluate, look_up, read_book, write_book, WriteBook, ABSENT};
 use reference::field::ORDERS;
 use reference::label::Label;
 use reference::random::Generator;
 use reference::refusal::Refusal;
 use reference::vectors::books::{label_at, place_of, with_half, Book};
+use reference::vectors::honest::SMALL_S;
 use reference::vectors::instance::Shape;
+use reference::vectors::maps::SMALL;
 
 /// The writer's arguments, the output by its length.
 #[derive(Clone)]
@@ -105,7 +107,7 @@ fn layout_of_a_small_book() {
     assert_eq!(Writing::of(&Book::small()).write(), (0, book.clone()));
     assert_eq!(reading(&book), (0, [3, 0, 0, 0, 7, 2, 2]));
     let mut key = [0; 96];
-    key[..2].copy_from_slice(&[5, 6]);
+    assert_eq!(evaluate(&SMALL, &SMALL_S, &mut key[..2]), 0);
     assert_eq!(found(&book, &book[21..31]), (0, key));
 }
 

@@ -1,6 +1,8 @@
 //! Cases for the lookup in a book: document 02, "Paper 2" and the order of its refusals.
 
-use super::book_reading::{every_order, fillers, labels_of_letters, with_faults, FAULTS};
+use super::book_reading::{
+    every_order, fillers, labels_of_letters, with_faults, FAULTS, LARGE_COUNTS,
+};
 use super::books::{all_halves, group, label_at, place_of, with_half, Book, LabelBytes};
 use super::case::{Call, Group};
 use super::instance::Shape;
@@ -17,6 +19,7 @@ pub fn groups() -> Vec<Group> {
         ("halves in another order", other_orders()),
         ("F and digits at the end", ends()),
         ("2,000 cards", large()),
+        ("refused counts", refused_counts()),
         ("wrong lengths", wrong_lengths()),
         ("A to F in each half", wrong_halves()),
         ("every byte changed", every_byte()),
@@ -168,10 +171,19 @@ fn large() -> Vec<Call> {
     let absent = [above_middle, below_last];
     let mut calls = all_of(&largest, &[&labels[..], &absent].concat());
     let many = [2_000, 2_001].map(Book::many);
+    let [below_first, _] = neighbours(many[0].labels[0]);
     let [_, above_last] = neighbours(many[0].labels[1_999]);
-    calls.extend(all_of(&many[0], &[many[0].labels[1_998], above_last]));
+    calls.extend(all_of(&many[0], &[below_first, above_last]));
     calls.extend(all_of(&many[1], &many[1].labels[2_000..]));
     calls
+}
+
+/// A card of the small book, in which the count is too large.
+fn refused_counts() -> Vec<Call> {
+    let small = Book::small();
+    let books = LARGE_COUNTS.map(|count| small.piece().overwritten(0, &count.to_le_bytes()));
+    let calls = books.map(|book| look_up(&book, &small.labels[1]));
+    calls.to_vec()
 }
 
 /// Labels of other lengths, which begin with a card's or with wrong halves; in books of no card

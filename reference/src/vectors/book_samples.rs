@@ -49,8 +49,8 @@ pub fn runs() -> Runs {
     }
 }
 
-/// Runs on small books: as a list; each card; absent cards; ICCIDs of wrong lengths, with wrong
-/// characters in each place, and both; and refused books, also with a wrong ICCID.
+/// Runs on small books: lists and refused books; each card; absent cards; ICCIDs of wrong lengths and
+/// with wrong characters; and refused books with an ICCID, right or wrong.
 const SMALL_RUNS: [&str; 45] = [
     "small",
     "twelve",

@@ -7,7 +7,7 @@ use crate::book::{self, ENTRY, HEAD};
 use crate::label::{packed, unpacked, Label, FILLER, HALVES, LABEL};
 use crate::random::Generator;
 
-/// How many cards' offsets of keys of one byte differ in their low byte.
+/// After how many cards with keys of one byte the offsets' low bytes repeat.
 const REGULAR: usize = 256;
 
 /// The bytes of a label, well-formed or not.
@@ -61,8 +61,8 @@ impl Book {
         Book::patterned(Shape::new(251, 96, 96), labels, period)
     }
 
-    /// Many cards with keys of one byte. Of every so many cards the labels differ from those of the
-    /// others in one byte only, and the offsets in another, so that the book is short in a file.
+    /// Many cards with keys of one byte. A card's label differs from that of 256 cards before in one
+    /// byte only, and so does its offset, so that the book is short in a file.
     pub fn many(count: usize) -> Book {
         let numbers = (0..count).map(|card| [card / REGULAR, card % REGULAR]);
         let labels = numbers.map(|[block, card]| {

@@ -186,7 +186,7 @@ impl Call {
     fn room(&self) -> Vec<usize> {
         match self {
             Call::Digest { .. } | Call::Read { .. } => vec![MOST_OF_RECORD],
-            Call::Write(_) => room_of_last(2, MOST_OF_RECORD),
+            Call::Write(_) => room_of_writing(MOST_OF_RECORD),
             Call::Report { .. } => vec![MOST_OF_RECORD, MOST_OF_TEXT],
             Call::Audit(audit) => {
                 let mut room = vec![MOST_OF_SYSTEM];
@@ -195,7 +195,7 @@ impl Call {
                 room
             }
             Call::ReadBook { .. } | Call::LookUp { .. } => vec![MOST_OF_BOOK],
-            Call::WriteBook(_) => room_of_last(2, MOST_OF_BOOK),
+            Call::WriteBook(_) => room_of_writing(MOST_OF_BOOK),
             _ => vec![MOST_OF_SYSTEM],
         }
     }
@@ -240,9 +240,9 @@ impl Call {
     }
 }
 
-/// The room of some small pieces, then of three large ones.
-fn room_of_last(small: usize, large: usize) -> Vec<usize> {
-    let mut room = vec![MOST_OF_OTHERS; small];
+/// The room of a writer's pieces: two small ones, then three large ones, the last of them put out.
+fn room_of_writing(large: usize) -> Vec<usize> {
+    let mut room = vec![MOST_OF_OTHERS; 2];
     room.extend([large; 3]);
     room
 }

@@ -107,7 +107,6 @@ fn of_groups(program: &'static str, groups: &[Group]) -> ProgramFile {
 }
 
 /// The cases of all calls but those of the sessions and for books.
-
 fn call_groups() -> Vec<Group> {
     [
         hash::groups(),
