@@ -2,9 +2,11 @@
 //!
 //! Document 01, "Refused because of the state", has their order: the system first, then the
 //! arguments left to right, all 1, all 2, all 3, then 4. Outputs count as arguments with an exact
-//! length. A refused call leaves its outputs unchanged. `record::read`, `report` and `audit` have
-//! orders of their own.
+//! length. A refused call leaves its outputs unchanged. `record::read`, `report`, `audit` and the
+//! calls for books have orders of their own.
 
+use crate::book::{self, Book, Head, HEAD};
+use crate::label::{Label, LABEL};
 use crate::map;
 use crate::record::{self, Header, Layout, BODIES};
 use crate::refusal::{number, unless, Refusal};
@@ -17,6 +19,12 @@ use crate::vector::all_elements;
 
 /// The longest message that SHA-256 takes here.
 pub const LONGEST_MESSAGE: usize = 65_535;
+
+/// What a lookup answers if no card has the label.
+pub const ABSENT: u8 = 255;
+
+/// A key by value: m bytes, and zeros.
+pub const KEY: usize = 96;
 
 /// Is this a well-formed system? 0 if it is.
 pub fn check(system: &[u8]) -> u8 {
@@ -77,6 +85,30 @@ pub fn read(record: &[u8], out: &mut [u8; BODIES]) -> u8 {
 /// What the report program prints for its standard input, a system and then a record.
 pub fn report(input: &[u8]) -> String {
     report::report(input)
+}
+
+/// Is this a well-formed book? Its count, q, n, m as they stand there into `out`.
+pub fn read_book(book: &[u8], out: &mut [u8; HEAD]) -> u8 {
+    number(try_read_book(book, out))
+}
+
+/// The arguments of `write_book`, in their order. `numbers` is q, n, m.
+pub struct WriteBook<'a> {
+    pub count: u32,
+    pub numbers: [u8; 3],
+    pub labels: &'a [u8],
+    pub keys: &'a [u8],
+    pub out: &'a mut [u8],
+}
+
+/// The book of all labels and keys into `out`.
+pub fn write_book(arguments: WriteBook) -> u8 {
+    number(try_write_book(arguments))
+}
+
+/// The key of the card with this label into `out`; `ABSENT` if no card has it.
+pub fn look_up(book: &[u8], label: &[u8], out: &mut [u8; KEY]) -> u8 {
+    try_look_up(book, label, out).unwrap_or_else(Refusal::number)
 }
 
 fn try_evaluate(system: &[u8], x: &[u8], out: &mut [u8]) -> Result<(), Refusal> {
@@ -168,4 +200,42 @@ fn try_read(record: &[u8], out: &mut [u8; BODIES]) -> Result<(), Refusal> {
     let layout = record::read(record)?;
     out.copy_from_slice(&layout.front());
     Ok(())
+}
+
+fn try_read_book(book: &[u8], out: &mut [u8; HEAD]) -> Result<(), Refusal> {
+    Book::read(book)?;
+    out.copy_from_slice(&book[..HEAD]);
+    Ok(())
+}
+
+/// Refusals in order: 6 for the count, 1, 2 for a slice, 12 or 13 for the first label at fault, 3.
+fn try_write_book(arguments: WriteBook) -> Result<(), Refusal> {
+    let WriteBook {
+        count,
+        numbers,
+        labels,
+        keys,
+        out,
+    } = arguments;
+    let head = Head::of(count, numbers)?;
+    unless(labels.len() == head.count * LABEL, Refusal::Length)?;
+    unless(keys.len() == head.count * head.size.m, Refusal::Length)?;
+    unless(out.len() == head.length(), Refusal::Length)?;
+    book::rising(labels.chunks(LABEL))?;
+    unless(all_elements(head.size.field, keys), Refusal::Element)?;
+    out.copy_from_slice(&book::write(numbers, labels, keys));
+    Ok(())
+}
+
+/// 0 or `ABSENT`. Refusals in order: those of the book, 2 for the label, 12.
+fn try_look_up(book: &[u8], label: &[u8], out: &mut [u8; KEY]) -> Result<u8, Refusal> {
+    let book = Book::read(book)?;
+    let label = Label::of_bytes(label)?;
+    let Some(key) = book.key(label) else {
+        return Ok(ABSENT);
+    };
+    let (start, rest) = out.split_at_mut(key.len());
+    start.copy_from_slice(key);
+    rest.fill(0);
+    Ok(0)
 }

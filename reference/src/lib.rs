@@ -1,14 +1,17 @@
-//! A second implementation of the engine, written from documents 000 and 01 and FIPS 180-4 alone.
+//! A second implementation of the engine, written from documents 000, 01 and 02 and FIPS 180-4
+//! alone.
 //!
 //! It is plain on purpose: sums are nested loops, G is computed from its definition, and nothing is
 //! tuned. A module renders one part of document 01 and names its section. `entries` is the engine
 //! as the outside sees it, refusals included; `vectors` makes the stored test vectors from it.
 
 pub mod audit;
+pub mod book;
 pub mod commitment;
 pub mod entries;
 pub mod field;
 pub mod five_pass;
+pub mod label;
 pub mod layout;
 pub mod map;
 pub mod random;

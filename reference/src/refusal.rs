@@ -1,4 +1,5 @@
-//! Document 01, "Refused because of the input" and "of the state": the refusals by their numbers.
+//! Document 01, "Refused because of the input" and "of the state", and document 02, "Paper 2": the
+//! refusals by their numbers.
 
 /// Why a call is refused.
 #[derive(Clone, Copy, Debug, PartialEq, Eq)]
@@ -13,7 +14,8 @@ pub enum Refusal {
     Challenge,
     /// 5: F(s) is not v.
     Key,
-    /// 6: a record's size, edition, table or length is wrong.
+    /// 6: a record's size, edition, table or length is wrong, or a book's size, count, table or
+    /// length.
     Record,
     /// 7: q, n or m of the system differ from the session's or the record's, or audited records
     /// differ from each other.
@@ -26,6 +28,10 @@ pub enum Refusal {
     NotDue,
     /// 11: the session is closed.
     Closed,
+    /// 12: a label has a wrong half.
+    Half,
+    /// 13: a label is not above the one before.
+    Order,
 }
 
 impl Refusal {
@@ -42,6 +48,8 @@ impl Refusal {
             Refusal::NoFullSet => 9,
             Refusal::NotDue => 10,
             Refusal::Closed => 11,
+            Refusal::Half => 12,
+            Refusal::Order => 13,
         }
     }
 }

@@ -1,8 +1,9 @@
-//! The audit program's text, the samples stored for it, and the files of the runs at the edges.
+//! The texts of the audit and the book program, the samples stored for them, and the files of the
+//! runs at the edges.
 
 use reference::audit::{audit_three, Finding};
 use reference::vectors::samples::{stored, text};
-use reference::vectors::{edges, Stored};
+use reference::vectors::{book_samples, edges, Stored};
 
 #[test]
 fn texts() {
@@ -98,4 +99,48 @@ fn longest_input() {
     let printed: Vec<&str> = reports.runs.iter().map(|(_, text)| &text[..]).collect();
     assert!(printed[0].ends_with("verdict accept 4 of 4\nrounds 4 accepted 0 rejected\n"));
     assert_eq!(printed[1..], ["refused 2\n", "refused 2\n"]);
+}
+
+/// The stored run lists the small book's cards, the second with the small key's v.
+#[test]
+fn books() {
+    let stored = book_samples::stored();
+    let text = |path| std::str::from_utf8(bytes(&stored, path)).expect("a text");
+    let list = "q 7 n 2 m 2 count 3\n\
+        89441000000000000123 0301\n8944100000000000013 0506\n89441000000000000200 0004\n";
+    assert_eq!(text("book/stdout"), list);
+    assert_eq!(text("book/args"), "small\n");
+    let runs = text("book/runs");
+    for run in [
+        "$ book small 8944100000000000013\n0506\n",
+        "$ book small 8944100000000000013F\n0506\n",
+        "$ book small 89441000000000000130\nabsent\n",
+        "$ book small 894410000000000001\nrefused 2\n",
+        "$ book small 894410000000000001F\nrefused 12\n",
+        "$ book damaged\nrefused 13\n",
+        "$ book damaged 1\nrefused 13\n",
+        "$ book over/large\nrefused 6\n",
+        "$ book over/value\nrefused 1\n",
+        "$ book missing\n$ ",
+    ] {
+        assert!(runs.contains(run), "{run}");
+    }
+}
+
+/// The files of the book program's runs: the largest book, and longer ones. Of twelve cards some
+/// have nineteen digits and some twenty.
+#[test]
+fn book_files() {
+    let runs = book_samples::runs();
+    assert_eq!(bytes(&runs.files, "large").len(), 220_007);
+    assert_eq!(bytes(&runs.files, "over/large").len(), 220_008);
+    assert_eq!(bytes(&runs.files, "over/value").len(), 220_008);
+    let twelve = book_samples::text(bytes(&runs.files, "twelve"), None);
+    let lengths: Vec<usize> = twelve
+        .lines()
+        .skip(1)
+        .map(|line| line.find(' ').expect("a space"))
+        .collect();
+    assert_eq!(lengths.len(), 12);
+    assert!(lengths.contains(&19) && lengths.contains(&20));
 }

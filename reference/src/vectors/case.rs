@@ -1,12 +1,14 @@
 //! A case: one call with its expected number and outputs.
 
 use super::audited::{Audit, FINDING};
+use super::book_writing::BookWriting;
 use super::exchange::{Card, Judgement};
 use super::piece::{encode_number, Piece};
 use super::reading;
 use super::simulation::Simulation;
 use super::writing::Writing;
-use crate::entries;
+use crate::book;
+use crate::entries::{self, KEY};
 use std::iter::repeat;
 
 /// What every output byte is before most calls. It is no field's element, so that an element left
@@ -14,9 +16,11 @@ use std::iter::repeat;
 pub const FILL: u8 = 255;
 
 /// The most bytes that the programs' buffers take: a system; a record or a body of it, a message or
-/// the report's input; the report's text; any other piece but a finding.
+/// the report's input; a book, its labels or its keys; the report's text; any other piece but a
+/// finding.
 const MOST_OF_SYSTEM: usize = 500_000;
 const MOST_OF_RECORD: usize = 131_072;
+const MOST_OF_BOOK: usize = 262_144;
 const MOST_OF_TEXT: usize = 8_192;
 const MOST_OF_OTHERS: usize = 512;
 
@@ -60,6 +64,14 @@ pub enum Call {
         input: Piece,
     },
     Audit(Audit),
+    ReadBook {
+        book: Piece,
+    },
+    WriteBook(BookWriting),
+    LookUp {
+        book: Piece,
+        label: Vec<u8>,
+    },
 }
 
 /// What a call answers: its number and its outputs afterwards.
@@ -92,6 +104,9 @@ impl Call {
             Call::Write(_) => 10,
             Call::Report { .. } => 11,
             Call::Audit(audit) => audit.kind(),
+            Call::ReadBook { .. } => 24,
+            Call::WriteBook(_) => 25,
+            Call::LookUp { .. } => 26,
         }
     }
 
@@ -123,6 +138,15 @@ impl Call {
             Call::Write(writing) => writing.answer(),
             Call::Report { input } => written(entries::report(&input.expanded()).into_bytes()),
             Call::Audit(audit) => audit.answer(),
+            Call::ReadBook { book } => answer(book::HEAD, |out| {
+                let out = out.try_into().expect("a head");
+                entries::read_book(&book.expanded(), out)
+            }),
+            Call::WriteBook(writing) => writing.answer(),
+            Call::LookUp { book, label } => answer(KEY, |out| {
+                let out = out.try_into().expect("a key");
+                entries::look_up(&book.expanded(), label, out)
+            }),
         }
     }
 
@@ -152,6 +176,9 @@ impl Call {
             Call::Write(writing) => writing.inputs(),
             Call::Report { input } => vec![input.clone()],
             Call::Audit(audit) => audit.inputs(),
+            Call::ReadBook { book } => vec![book.clone()],
+            Call::WriteBook(writing) => writing.inputs(),
+            Call::LookUp { book, label } => vec![book.clone(), Piece::literal(label)],
         }
     }
 
@@ -159,11 +186,7 @@ impl Call {
     fn room(&self) -> Vec<usize> {
         match self {
             Call::Digest { .. } | Call::Read { .. } => vec![MOST_OF_RECORD],
-            Call::Write(_) => {
-                let mut room = vec![MOST_OF_OTHERS; 2];
-                room.extend([MOST_OF_RECORD; 3]);
-                room
-            }
+            Call::Write(_) => room_of_writing(MOST_OF_RECORD),
             Call::Report { .. } => vec![MOST_OF_RECORD, MOST_OF_TEXT],
             Call::Audit(audit) => {
                 let mut room = vec![MOST_OF_SYSTEM];
@@ -171,6 +194,8 @@ impl Call {
                 room.push(FINDING);
                 room
             }
+            Call::ReadBook { .. } | Call::LookUp { .. } => vec![MOST_OF_BOOK],
+            Call::WriteBook(_) => room_of_writing(MOST_OF_BOOK),
             _ => vec![MOST_OF_SYSTEM],
         }
     }
@@ -197,6 +222,8 @@ impl Call {
             Call::Audit(_) => Piece::ending_with(out, &Piece::byte(0)),
             _ if number != 0 => Piece::repeated(&[FILL], out.len()),
             Call::Write(writing) => Piece::ending_with(out, &writing.exchanges),
+            Call::WriteBook(writing) => Piece::ending_with(out, &writing.keys),
+            Call::LookUp { .. } => Piece::ending_with(out, &Piece::byte(0)),
             _ => Piece::literal(out),
         }
     }
@@ -211,6 +238,13 @@ impl Call {
             piece.encode(file);
         }
     }
+}
+
+/// The room of a writer's pieces: two small ones, then three large ones, the last of them put out.
+fn room_of_writing(large: usize) -> Vec<usize> {
+    let mut room = vec![MOST_OF_OTHERS; 2];
+    room.extend([large; 3]);
+    room
 }
 
 /// The system, the scheme, s and the lent slice.

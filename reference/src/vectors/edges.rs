@@ -55,7 +55,8 @@ fn with(paths: &[String], place: usize, path: &str) -> String {
     paths.join(" ")
 }
 
-fn longer(bytes: &[u8], length: usize) -> Vec<u8> {
+/// The bytes, and zeros up to a length.
+pub fn longer(bytes: &[u8], length: usize) -> Vec<u8> {
     let mut bytes = bytes.to_vec();
     bytes.resize(length, 0);
     bytes

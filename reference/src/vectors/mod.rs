@@ -1,4 +1,5 @@
-//! The stored test vectors: one file of all single calls, and one of the sessions' calls.
+//! The stored test vectors: one file of all single calls, one of the sessions' calls, and one of
+//! the calls for books.
 //!
 //! The format is documented in README.md. Expected answers are those of `entries` and `rounds`.
 
@@ -7,6 +8,11 @@ pub mod audit_forged;
 pub mod audit_rejected;
 pub mod audited;
 pub mod auditing;
+pub mod book_lookup;
+pub mod book_reading;
+pub mod book_samples;
+pub mod book_writing;
+pub mod books;
 pub mod calls;
 pub mod case;
 pub mod demo;
@@ -60,13 +66,19 @@ pub fn stored() -> Vec<Stored> {
     };
     pairs
         .chain(samples::stored())
+        .chain(book_samples::stored())
         .chain([report_runs])
         .collect()
 }
 
-/// The files that the runs in `audit/runs` and `report/runs` are on, below a folder for each program.
+/// The files that the runs in `audit/runs`, `report/runs` and `book/runs` are on, below a folder for
+/// each program.
 pub fn run_files() -> Vec<Stored> {
-    let programs = [("audit", edges::audit()), ("report", edges::reports())];
+    let programs = [
+        ("audit", edges::audit()),
+        ("report", edges::reports()),
+        ("book", book_samples::runs()),
+    ];
     let files = programs.into_iter().flat_map(|(program, runs)| {
         runs.files.into_iter().map(move |file| Stored {
             path: format!("{program}/{}", file.path),
@@ -78,19 +90,23 @@ pub fn run_files() -> Vec<Stored> {
 
 /// The vector file of each program.
 pub fn files() -> Vec<ProgramFile> {
-    vec![calls_file(), sessions::file()]
+    vec![
+        of_groups("vectors", &call_groups()),
+        sessions::file(),
+        of_groups("book_vectors", &book_groups()),
+    ]
 }
 
-/// The cases of all calls but the sessions', each of which stands by itself.
-fn calls_file() -> ProgramFile {
-    let groups = call_groups();
+/// The file of cases each of which stands by itself.
+fn of_groups(program: &'static str, groups: &[Group]) -> ProgramFile {
     ProgramFile {
-        program: "vectors",
-        stdin: encode(&groups),
-        stdout: agreement(&groups),
+        program,
+        stdin: encode(groups),
+        stdout: agreement(groups),
     }
 }
 
+/// The cases of all calls but those of the sessions and for books.
 fn call_groups() -> Vec<Group> {
     [
         hash::groups(),
@@ -104,6 +120,18 @@ fn call_groups() -> Vec<Group> {
         writing::groups(),
         reporting::groups(),
         auditing::groups(),
+    ]
+    .into_iter()
+    .flatten()
+    .collect()
+}
+
+/// The cases of the calls for books.
+fn book_groups() -> Vec<Group> {
+    [
+        book_reading::groups(),
+        book_writing::groups(),
+        book_lookup::groups(),
     ]
     .into_iter()
     .flatten()

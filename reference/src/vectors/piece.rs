@@ -87,7 +87,7 @@ impl Piece {
     }
 
     /// The bytes it takes in a file, its three numbers aside.
-    fn size(&self) -> usize {
+    pub fn size(&self) -> usize {
         self.pattern.len() + 5 * self.patches.len()
     }
 

@@ -38,7 +38,6 @@ const NO_AUDITS: [&str; 2] = ["system three/a three/b", "system three/a three/b 
 /// files that are not stored.
 pub fn stored() -> Vec<Stored> {
     let samples = samples();
-    let args = STORED_RUN.replace(' ', "\n") + "\n";
     let mut runs = String::new();
     for run in [STORED_RUN].into_iter().chain(RUNS) {
         runs += &format!("$ audit {run}\n{}", printed(&samples, run));
@@ -47,17 +46,27 @@ pub fn stored() -> Vec<Stored> {
         runs += &format!("$ audit {run}\n");
     }
     runs += &edges::audit().text(PROGRAM);
-    let texts = [
-        ("args", args),
-        ("stdout", printed(&samples, STORED_RUN)),
-        ("runs", runs),
-    ];
+    let printed = printed(&samples, STORED_RUN);
+    folder(PROGRAM, STORED_RUN, printed, runs, samples)
+}
+
+/// The files of a program's folder: the samples in `data`; `args` and `stdout` of a run, an argument
+/// a line; and `runs`.
+pub fn folder(
+    program: &str,
+    run: &str,
+    printed: String,
+    runs: String,
+    samples: Vec<Stored>,
+) -> Vec<Stored> {
+    let args = run.replace(' ', "\n") + "\n";
+    let texts = [("args", args), ("stdout", printed), ("runs", runs)];
     let texts = texts.map(|(name, text)| Stored {
-        path: format!("{PROGRAM}/{name}"),
+        path: format!("{program}/{name}"),
         bytes: text.into_bytes(),
     });
     let samples = samples.into_iter().map(|sample| Stored {
-        path: format!("{PROGRAM}/data/{}", sample.path),
+        path: format!("{program}/data/{}", sample.path),
         bytes: sample.bytes,
     });
     texts.into_iter().chain(samples).collect()

@@ -3,7 +3,7 @@
 use crate::audits;
 use crate::stored::{groups, made, Case};
 use reference::audit::{audit_five, audit_three};
-use reference::entries::{self, Simulate, Write};
+use reference::entries::{self, Simulate, Write, WriteBook};
 use reference::rounds::{self, Transcript};
 use reference::scheme::Scheme;
 use reference::system::System;
@@ -42,6 +42,15 @@ impl Case {
             11 => {
                 outs[0].copy_from_slice(entries::report(&inputs[0]).as_bytes());
                 0
+            }
+            24 => {
+                let out = outs[0].as_mut_slice();
+                entries::read_book(&inputs[0], out.try_into().expect("7 bytes"))
+            }
+            25 => self.write_book(&mut outs[0]),
+            26 => {
+                let out = outs[0].as_mut_slice();
+                entries::look_up(&inputs[0], &inputs[1], out.try_into().expect("96 bytes"))
             }
             _ => self.audit(&mut outs[0]),
         }
@@ -88,6 +97,17 @@ impl Case {
         })
     }
 
+    fn write_book(&self, out: &mut [u8]) -> u8 {
+        let [count, numbers, labels, keys] = [0, 1, 2, 3].map(|i| &self.inputs[i]);
+        entries::write_book(WriteBook {
+            count: u32::from_le_bytes(count[..].try_into().expect("four bytes")),
+            numbers: numbers[..].try_into().expect("three numbers"),
+            labels,
+            keys,
+            out,
+        })
+    }
+
     fn audit(&self, out: &mut [u8]) -> u8 {
         let finding = match &self.inputs[..] {
             [system, a, b, c] => audit_three(system, a, b, c),
@@ -120,14 +140,20 @@ impl Case {
     }
 }
 
-/// The file of single calls.
-fn file() -> &'static ProgramFile {
-    let file = made().iter().find(|file| file.program == "vectors");
+/// The files of single calls, and the kinds of each.
+const FILES: [(&str, &[u8]); 2] = [
+    ("vectors", &[0, 1, 2, 3, 4, 5, 6, 7, 8, 9, 10, 11, 22, 23]),
+    ("book_vectors", &[24, 25, 26]),
+];
+
+/// The file of a program.
+fn file(program: &str) -> &'static ProgramFile {
+    let file = made().iter().find(|file| file.program == program);
     file.expect("a file")
 }
 
 /// The numbers that the cases of a kind answer. The calls of a round, kinds 4 to 7, are never
-/// refused; 1 is a judgement's accept. A report's text says its refusal.
+/// refused; 1 is a judgement's accept. A report's text says its refusal. 255 is a lookup's absent.
 fn numbers_of(kind: u8) -> &'static [u8] {
     match kind {
         0..=2 => &[0, 1, 2, 3],
@@ -137,17 +163,20 @@ fn numbers_of(kind: u8) -> &'static [u8] {
         8 => &[0, 1, 2, 3, 4],
         9 => &[0, 1, 3, 4, 6],
         10 => &[0, 1, 2, 3, 4],
+        24 => &[0, 1, 3, 6, 12, 13],
+        25 => &[0, 1, 2, 3, 6, 12, 13],
+        26 => &[0, 1, 2, 3, 6, 12, 13, 255],
         _ => &[0, 1, 2, 3, 4, 6, 7, 8, 9],
     }
 }
 
-#[test]
-fn every_case_answers_as_it_says() {
+/// Runs the cases of a file: what its program prints, and the kinds and numbers that there are.
+fn run(file: &ProgramFile) -> (String, BTreeSet<(u8, u8)>) {
     let mut report = String::new();
     let mut total = 0;
     let mut seen = BTreeSet::new();
     let mut names = BTreeSet::new();
-    for (name, cases) in groups(file()) {
+    for (name, cases) in groups(file) {
         for case in &cases {
             assert!(case.agrees(), "a case of {name}");
             seen.insert((case.kind, case.number));
@@ -158,11 +187,19 @@ fn every_case_answers_as_it_says() {
         assert!(names.insert(name), "two groups of one name");
     }
     report += &format!("total: {total} cases, {total} agree\n");
-    assert_eq!(report, file().stdout);
-    let kinds = (0..=11).chain([22, 23]);
-    let expected =
-        kinds.flat_map(|kind| numbers_of(kind).iter().map(move |&number| (kind, number)));
-    assert_eq!(seen, expected.collect());
+    (report, seen)
+}
+
+#[test]
+fn every_case_answers_as_it_says() {
+    for (program, kinds) in FILES {
+        let (report, seen) = run(file(program));
+        assert_eq!(report, file(program).stdout);
+        let kinds = kinds.iter();
+        let expected =
+            kinds.flat_map(|&kind| numbers_of(kind).iter().map(move |&number| (kind, number)));
+        assert_eq!(seen, expected.collect());
+    }
 }
 
 #[test]

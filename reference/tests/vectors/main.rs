@@ -1,8 +1,9 @@
 //! The vector files, read back by a reader of their own: every case is whole and answers as it
-//! says; judges, readers and audits that are wrong in a known way are told.
+//! says; judges, readers, audits and lookups that are wrong in a known way are told.
 
 mod answers;
 mod audits;
+mod books;
 mod judges;
 mod records;
 mod reports;

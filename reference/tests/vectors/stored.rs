@@ -95,11 +95,11 @@ pub struct Case {
 
 /// How many inputs and outputs a kind has.
 fn counts(kind: u8) -> (usize, usize) {
-    const INPUTS: [usize; 24] = [
-        1, 2, 3, 1, 4, 3, 5, 7, 5, 1, 4, 1, 5, 2, 2, 1, 4, 1, 1, 1, 1, 2, 4, 5,
+    const INPUTS: [usize; 27] = [
+        1, 2, 3, 1, 4, 3, 5, 7, 5, 1, 4, 1, 5, 2, 2, 1, 4, 1, 1, 1, 1, 2, 4, 5, 1, 4, 2,
     ];
-    const OUTPUTS: [usize; 24] = [
-        0, 1, 1, 1, 1, 1, 1, 0, 2, 1, 1, 1, 0, 1, 1, 1, 0, 0, 0, 0, 0, 1, 1, 1,
+    const OUTPUTS: [usize; 27] = [
+        0, 1, 1, 1, 1, 1, 1, 0, 2, 1, 1, 1, 0, 1, 1, 1, 0, 0, 0, 0, 0, 1, 1, 1, 1, 1, 1,
     ];
     let kind = usize::from(kind);
     (INPUTS[kind], OUTPUTS[kind])
