@@ -1,8 +1,10 @@
 // Runs the stored vectors of the key book's reader, writer and lookup against the proved engine, and reports group by group how
 // many agree. The file and its kinds of case are described in reference/README.md.
+mod lookup;
 mod read;
 mod write;
 
+use crate::lookup::lookup_case;
 use crate::read::read_case;
 use crate::write::write_case;
 use cases::Outcome;
@@ -14,13 +16,7 @@ fn main() {
     let mut keys = cases::book_buffer();
     let mut book = cases::book_buffer();
     let mut out = cases::book_buffer();
-    run(
-        &file[..length],
-        &mut labels,
-        &mut keys,
-        &mut book,
-        &mut out,
-    );
+    run(&file[..length], &mut labels, &mut keys, &mut book, &mut out);
 }
 
 // Runs each case in turn. A position that does not move on ends the run.
@@ -53,6 +49,7 @@ fn run_case(
     match kind {
         24 => read_case(file, head, book),
         25 => write_case(file, head, labels, keys, book, out),
+        26 => lookup_case(file, head, book),
         _ => cases::malformed(),
     }
 }
