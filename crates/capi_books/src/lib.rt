@@ -1,7 +1,7 @@
-// Key books in the C interface: the archive of `capi` has these functions too, and include/canvasfox.h declares them.
+// The reader and the lookup of key books for the C interface, where an answer is one number and an output is lent.
 //
-// Each takes any bytes and has the equations of the entry behind it. It answers 0, or the number of the refusal, and then every
-// output is what it was; the lookup answers 255 where the label is absent.
+// Each takes any bytes. It answers 0, or the number of the refusal, and then the output is what it was; the lookup answers 255
+// where the label is absent.
 use book_lookup::Answer;
 use book_lookup::lookup;
 use book_reader::read;
@@ -12,31 +12,11 @@ use slices::put;
 ghost use mathlib.Core.Path.{_≡_};
 ghost use lib.ListN.{length, take};
 ghost use Rattle.refusal.specs.Refusal.{kept};
-ghost use Rattle.book_form.specs.Book.{written};
-ghost use Rattle.book_writer.specs.Writer.{frontOf, fieldsOf, writeRefusal};
 ghost use Rattle.book_lookup.specs.Lookup.{lookupOf};
 ghost use Rattle.capi_books.specs.Numbers.{frontRefusal, answerNumber, lookupNumber};
 
-// The key book of a delivery.
-#[no_mangle]
-pub extern "C" fn canvasfox_book_write<'a>(
-    count: u32,
-    q: u8,
-    n: u8,
-    m: u8,
-    labels: &'a [u8],
-    keys: &'a [u8],
-    book: &mut [u8],
-) -> u8
-    ensures { λ r. ⌜ (r ≡ writeRefusal (fieldsOf (frontOf count q n m) (now (labels .entry)) (now (keys .entry))) (length (now (book .entry))))
-        × (now (book .exit) ≡ kept r (now (book .entry)) (written (fieldsOf (frontOf count q n m) (now (labels .entry)) (now (keys .entry))))) ⌝ }
-{
-    book_writer::write(count, q, n, m, labels, keys, book)
-}
-
 // A book's first seven bytes.
-#[no_mangle]
-pub extern "C" fn canvasfox_book_read(book: &[u8], fields: &mut [u8]) -> u8
+pub fn read_fields(book: &[u8], fields: &mut [u8]) -> u8
     ensures { λ r. ⌜ (r ≡ frontRefusal (now (book .entry)) (length (now (fields .entry))))
         × (now (fields .exit) ≡ kept r (now (fields .entry)) (take 7 (now (book .entry)))) ⌝ }
 {
@@ -64,8 +44,7 @@ fn answer_number(answer: Answer) -> u8
 }
 
 // The key of the card with this label.
-#[no_mangle]
-pub extern "C" fn canvasfox_book_lookup<'a>(book: &'a [u8], label: &'a [u8], key: &mut [u8]) -> u8
+pub fn lookup_key<'a>(book: &'a [u8], label: &'a [u8], key: &mut [u8]) -> u8
     ensures { λ r. ⌜ (r ≡ lookupNumber (now (book .entry)) (now (label .entry)) (length (now (key .entry))))
         × (now (key .exit) ≡ kept r (now (key .entry)) (lookupOf (now (book .entry)) (now (label .entry)) .key)) ⌝ }
 {

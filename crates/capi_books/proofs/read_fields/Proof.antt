@@ -8,12 +8,12 @@ use Rattle.refusal.proofs.Chains.{ends-here, goes-on}
 use Rattle.capi_books.specs.Numbers.{frontRefusal}
 use Rattle.capi_books.proofs.Outputs.{fits, seven}
 use borrow.Author.Needs.{needs}
-use Rattle.capi_books.proofs.canvasfox_book_read.Statement.{statement}
-use Rattle.capi_books.proofs.canvasfox_book_read.Tie as tie
+use Rattle.capi_books.proofs.read_fields.Statement.{statement}
+use Rattle.capi_books.proofs.read_fields.Tie as tie
 
-pub canvasfox-book-read-spec : {M : Type 1} → statement M
+pub read-fields-spec : {M : Type 1} → statement M
 unfolding frontRefusal
-canvasfox-book-read-spec =
+read-fields-spec =
     tie.close
     (tie.spec
     (λ c κs. search needs)

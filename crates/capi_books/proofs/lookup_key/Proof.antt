@@ -9,12 +9,12 @@ use Rattle.book_lookup.specs.declared.LookedUp.{LookedUp}
 use Rattle.capi_books.specs.Numbers.{answerNumber, lookupNumber}
 use Rattle.capi_books.proofs.Outputs.{fits, key-long}
 use borrow.Author.Needs.{needs}
-use Rattle.capi_books.proofs.canvasfox_book_lookup.Statement.{statement}
-use Rattle.capi_books.proofs.canvasfox_book_lookup.Tie as tie
+use Rattle.capi_books.proofs.lookup_key.Statement.{statement}
+use Rattle.capi_books.proofs.lookup_key.Tie as tie
 
-pub canvasfox-book-lookup-spec : {M : Type 1} → statement M
+pub lookup-key-spec : {M : Type 1} → statement M
 unfolding lookupNumber
-canvasfox-book-lookup-spec =
+lookup-key-spec =
     tie.close
     (tie.spec
     (λ c κs. search needs)
