@@ -1,7 +1,6 @@
 -- Outputs of the right length. Assumes nothing.
-use Prim.Native.Nat.{ℕ, _≤_}
+use Prim.Native.Nat.{ℕ}
 use mathlib.Core.Path.{_≡_, refl, sym, ap, _∙_}
-use mathlib.Core.Bool.{Bool, true, false, cond}
 use mathlib.Core.List.{List}
 use lib.Dec.{eqb}
 use lib.ListN.{length, take, drop, length-replicate}
@@ -14,7 +13,7 @@ use Rattle.field.proofs.Vectors.{length-vector}
 use Rattle.book_form.specs.Book.{frontIn, tableIn}
 use Rattle.book_reader.specs.Reader.{bookRefusal}
 use Rattle.book_reader.proofs.WellFormed.{accepted}
-use Rattle.book_lookup.specs.declared.Answer.the-variants.{Found, Absent, Refused}
+use Rattle.book_lookup.specs.declared.Answer.the-variants.{Absent, Refused}
 use Rattle.book_lookup.specs.declared.LookedUp.{LookedUp}
 use Rattle.book_lookup.specs.Lookup.{placeIn, keyIn, noKey, lookupAt, lookupRefusal, lookupOf}
 
