@@ -9,11 +9,10 @@ ghost use Rattle.label.specs.Tests.{isLabel, isBelow, areDigits, areLast
 fn are_digits(byte: u8) -> bool
     ensures { λ r. ⌜ r ≡ areDigits byte ⌝ }
 {
-    if byte % 16 <= 9 {
-        byte / 16 <= 9
-    } else {
-        false
+    if 9 < byte % 16 {
+        return false;
     }
+    byte / 16 <= 9
 }
 
 // The same of the last byte, whose high half may be F too.

@@ -10,5 +10,5 @@ unfolding areDigits
 are-digits-spec =
     tie.close
     (tie.spec
-    (λ c. simp (le-leb (c .before .args .byte % 16) 9 (c .if1 .taken)))
-    (λ c. simp (lt-leb (c .before .args .byte % 16) 9 (c .if1 .left))))
+    (λ c. simp (lt-leb (c .before .args .byte % 16) 9 (c .if1 .taken)))
+    (λ c. simp (le-leb (c .before .args .byte % 16) 9 (c .if1 .left))))
