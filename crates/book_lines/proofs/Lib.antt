@@ -1,0 +1,1 @@
+-- Worked labels, and laws of a book's text as it grows.
