@@ -1,0 +1,3 @@
+-- Laws of the lookup: the search, and what an answer says of the book.
+pub mod Search
+pub mod Lookups
