@@ -3,7 +3,7 @@ use Prim.Native.Nat.{ℕ, _+_, _-_, _*_}
 use mathlib.Core.Bool.{cond, _&&_, _||_}
 use mathlib.Core.List.{List, [], _∷_, _++_}
 use lib.Dec.{eqb, ltb, leb}
-use lib.ListN.{length}
+use lib.ListN.{length, take}
 use Rattle.slices.specs.Slices.{_!_, tabulate, joined}
 use Rattle.text.specs.Text.{numbered, numberedFour, lineFeed}
 use Rattle.hex.specs.Hex.{hex}
@@ -13,6 +13,9 @@ use Rattle.book_form.specs.declared.layout.Front.{Front}
 use Rattle.book_form.specs.Book.{keyOf, frontIn, tableIn, fieldsIn}
 use Rattle.book_form.specs.Labels.{labelAt}
 use Rattle.book_reader.specs.Reader.{bookRefusal}
+use Rattle.book_lookup.specs.declared.Answer.{Answer}
+use Rattle.book_lookup.specs.declared.Answer.the-variants.{Found, Absent, Refused}
+use Rattle.book_lookup.specs.Lookup.{lookupOf}
 
 -- ---- words
 
@@ -88,3 +91,13 @@ labelFrom iccid = cond (eqb (length iccid) 20 || eqb (length iccid) 19) (tabulat
 -- a key alone on its line
 unfoldable pub keyLine : List ℕ → List ℕ
 keyLine key = hex key ++ lineFeed
+
+-- a key where there is one, else `absent` or the refusal
+unfoldable pub answerLine : Answer → List ℕ → List ℕ
+answerLine Found key = keyLine key
+answerLine Absent key = absentLine
+answerLine (Refused number) key = refusedLine number
+
+-- the key of the card with this ICCID, of m bytes, or that there is none
+unfoldable pub lookupText : List ℕ → List ℕ → List ℕ
+lookupText b iccid = let found = lookupOf b (labelFrom iccid) in answerLine (found .answer) (take (frontIn b .m) (found .key))

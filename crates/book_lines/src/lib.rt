@@ -4,6 +4,9 @@
 use book_form::Front;
 use book_form::label_at;
 use book_form::of_cards;
+use book_lookup::Answer;
+use book_lookup::LookedUp;
+use book_lookup::lookup;
 use book_reader::front_of;
 use book_reader::keys_of;
 use book_reader::read;
@@ -17,13 +20,16 @@ use text::append_count;
 use text::append_number;
 use text::append_numbers;
 ghost use mathlib.Core.Path.{_≡_};
+ghost use mathlib.Core.Bool.{cond, _||_};
 ghost use mathlib.Core.List.{_++_};
 ghost use Prim.Native.Nat.{_+_, _*_, _/_, _%_, _≤_, _<_};
+ghost use lib.Dec.{eqb};
 ghost use lib.ListN.{length};
 ghost use Rattle.slices.specs.Slices.{tabulate, placed, joined};
 ghost use Rattle.book_form.specs.Book.{keyOf, frontIn, fieldsIn};
 ghost use Rattle.book_reader.specs.Reader.{bookRefusal};
-ghost use Rattle.book_lines.specs.BookLines.{halfDigit, labelDigits, cardLine, sizesLine, cardOf, bookText, halfOf, characterAt, byteFrom};
+ghost use Rattle.book_lookup.specs.Lookup.{lookupOf};
+ghost use Rattle.book_lines.specs.BookLines.{halfDigit, labelDigits, cardLine, sizesLine, cardOf, bookText, halfOf, characterAt, byteFrom, labelFrom, keyLine, answerLine, lookupText};
 
 // Puts a half's digit, nothing for F.
 fn append_half(text: &mut [u8], at: usize, half: u8) -> usize
@@ -181,4 +187,59 @@ fn bytes_from(iccid: &[u8]) -> [u8; 10]
         byte_from(iccid, 8),
         byte_from(iccid, 9),
     ]
+}
+
+// How many bytes the label has: ten where there are twenty characters or nineteen, else none.
+fn label_length(iccid: &[u8]) -> usize
+    ensures { λ r. ⌜ r ≡ cond (eqb (length (now (iccid .entry))) 20 || eqb (length (now (iccid .entry))) 19) 10 0 ⌝ }
+{
+    if iccid.len() == 20 {
+        return 10;
+    }
+    if iccid.len() == 19 {
+        return 10;
+    }
+    0
+}
+
+// Looks the label of an ICCID up.
+fn looked_up<'a>(book: &'a [u8], iccid: &'a [u8]) -> LookedUp
+    ensures { λ r. ⌜ r ≡ lookupOf (now (book .entry)) (labelFrom (now (iccid .entry))) ⌝ }
+{
+    let label = bytes_from(iccid);
+    lookup(book, part(&label, 0, label_length(iccid)))
+}
+
+// A key alone on its line.
+fn key_line(text: &mut [u8], key: &[u8]) -> usize
+    requires { ⌜ 2 * length (now key) + 1 ≤ length (now text) ⌝ }
+    ensures { λ r. ⌜ (now (text .exit) ≡ placed (now (text .entry)) 0 (keyLine (now (key .entry)))) × (r ≡ length (keyLine (now (key .entry)))) ⌝ }
+{
+    let next = append_hex(text, 0, key);
+    append(text, next, b"\n")
+}
+
+// The key, `absent`, or the refusal.
+fn answer_line(text: &mut [u8], answer: Answer, key: &[u8]) -> usize
+    requires { ⌜ (length (now key) ≤ 96) × (length (now text) ≡ 428064) ⌝ }
+    ensures { λ r. ⌜ (now (text .exit) ≡ placed (now (text .entry)) 0 (answerLine answer (now (key .entry))))
+        × (r ≡ length (answerLine answer (now (key .entry)))) ⌝ }
+{
+    match answer {
+        Answer::Found => key_line(text, key),
+        Answer::Absent => append(text, 0, b"absent\n"),
+        Answer::Refused(number) => refused_line(text, 0, number),
+    }
+}
+
+// The key of the card with an ICCID, or that there is none.
+pub fn lookup_text<'a>(book: &'a [u8], iccid: &'a [u8], text: &mut [u8; 428064]) -> usize
+    ensures { λ r. ⌜ (now (text .exit) ≡ placed (now (text .entry)) 0 (lookupText (now (book .entry)) (now (iccid .entry))))
+        × (r ≡ length (lookupText (now (book .entry)) (now (iccid .entry)))) ⌝ }
+{
+    let found = looked_up(book, iccid);
+    let answer = found.answer;
+    let key = found.key;
+    let m = front_of(book).m;
+    answer_line(text, answer, part(&key, 0, m as usize))
 }

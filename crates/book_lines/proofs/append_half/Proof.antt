@@ -1,35 +1,24 @@
+-- By cases on the half. Assumes nothing.
+use native.Mathlib.Omega.{arith}
+use borrow.Author.Tests.{eq-eqb, ne-eqb}
+use Rattle.book_lines.specs.BookLines.{halfDigit}
+use Rattle.book_lines.proofs.Grown.{nothing-put}
 use borrow.Author.Needs.{needs}
 use Rattle.book_lines.proofs.append_half.Statement.{statement}
 use Rattle.book_lines.proofs.append_half.Tie as tie
-use Rattle.book_lines.proofs.append_half.Reads as reads
-use Rattle.book_lines.proofs.append_half.Lts as lts
-use Rattle.text.proofs.append.Reads as append-reads
-
--- src/lib.rt:34:9
-returns : tie.Need-returns
-returns c = ?
-
--- src/lib.rt:36:24
-add-t8 : tie.Need-add-t8
-add-t8 c = search needs
-
--- src/lib.rt:36:22
-slice-aggregate-append : tie.Need-slice-aggregate-append
-slice-aggregate-append c = search needs
-
--- src/lib.rt:36:5
-append-requires : tie.Need-append-requires
-append-requires c κs = search needs
-
--- src/lib.rt:29:1
-same-length : tie.Need-same-length
-same-length c = search needs
-
--- src/lib.rt:29:1
-returns-2 : tie.Need-returns-2
-returns-2 c = ?
 
 pub append-half-spec : {M : Type 1} → statement M
+unfolding halfDigit
 append-half-spec =
     tie.close
-    (tie.spec returns add-t8 slice-aggregate-append append-requires same-length returns-2)
+    (tie.spec
+    (λ c. 
+    let none = nothing-put (c .before .before .args .text .now) (c .before .before .args .at) in
+    simp (eq-eqb (c .before .before .args .half) 15 (omega (arith, c .if1 .taken))) (none .0, none .1, omega arith))
+    (λ c. search needs)
+    (λ c. search needs)
+    (λ c κs. search needs)
+    (λ c. search needs)
+    (λ c. 
+    let put = c .before .before .append .ensures in
+    simp (ne-eqb _ 15 (c .before .before .before .before .before .if1 .left)) (put .0, put .1, omega arith)))

@@ -1,23 +1,16 @@
+-- By cases on the character. Assumes nothing.
+use native.Mathlib.Omega.{arith}
+use borrow.Author.Tests.{eq-eqb, ne-eqb, le-leb, lt-leb}
+use Rattle.book_lines.specs.BookLines.{halfOf}
 use Rattle.book_lines.proofs.half_of.Statement.{statement}
 use Rattle.book_lines.proofs.half_of.Tie as tie
-use Rattle.book_lines.proofs.half_of.Reads as reads
-use Rattle.book_lines.proofs.half_of.Lts as lts
-
--- src/lib.rt:140:9
-returns : tie.Need-returns
-returns c = ?
-
--- src/lib.rt:143:9
-returns-2 : tie.Need-returns-2
-returns-2 c = ?
-
--- src/lib.rt:146:9
-returns-3 : tie.Need-returns-3
-returns-3 c = ?
-
--- src/lib.rt:136:1
-returns-4 : tie.Need-returns-4
-returns-4 c = ?
 
 pub half-of-spec : {M : Type 1} → statement M
-half-of-spec = tie.close (tie.spec returns returns-2 returns-3 returns-4)
+unfolding halfOf
+half-of-spec =
+    tie.close
+    (tie.spec
+    (λ c. (simp (eq-eqb (c .before .args .character) 70 (omega (arith, c .if1 .taken))), omega arith))
+    (λ c. (simp (ne-eqb _ 70 (c .before .if1 .left), lt-leb _ 48 (c .if2 .taken)), omega arith))
+    (λ c. (simp (ne-eqb _ 70 (c .before .before .if1 .left), le-leb 48 _ (c .before .if2 .left), lt-leb 57 _ (c .if3 .taken)), omega arith))
+    (λ c. (simp (ne-eqb _ 70 (c .before .before .if1 .left), le-leb 48 _ (c .before .if2 .left), le-leb _ 57 (c .if3 .left)), omega arith)))
