@@ -1,6 +1,6 @@
 -- How long labels and keys are, and the text of a book by its refusal. Assumes nothing.
 use Prim.Native.Nat.{ℕ, _*_, _≤_}
-use mathlib.Core.Path.{_≡_, sym, ap, _∙_}
+use mathlib.Core.Path.{_≡_, ap, ap₂, _∙_}
 use mathlib.Core.List.{List, _++_}
 use native.Mathlib.Omega.{arith}
 use lib.ListN.{length}
@@ -10,11 +10,11 @@ use Rattle.slices.proofs.Parts.{part-most}
 use Rattle.report_lines.specs.ReportLines.{refusedLine}
 use Rattle.system.proofs.SystemLayout.{sizes}
 use Rattle.book_form.specs.declared.layout.Front.{Front}
-use Rattle.book_form.specs.Book.{keyOf, frontIn}
+use Rattle.book_form.specs.Book.{keyOf, frontIn, tableIn, fieldsIn}
 use Rattle.book_form.specs.Labels.{labelAt}
 use Rattle.book_reader.specs.Reader.{bookRefusal}
 use Rattle.book_reader.proofs.WellFormed.{accepted}
-use Rattle.book_lines.specs.BookLines.{sizesLine, cardOf, bookText}
+use Rattle.book_lines.specs.BookLines.{cardLine, sizesLine, cardOf, bookText}
 
 pub label-short : (p table : List ℕ) (i : ℕ) → p ≡ labelAt 14 table i → length p ≤ 10
 unfolding labelAt
@@ -47,3 +47,8 @@ refused-text b k e some = simp (ne-eqb (bookRefusal b) 0 (λ none. some (e ∙ n
 pub cards-text : (b : List ℕ) → bookRefusal b ≡ 0 → sizesLine (frontIn b) ++ joined (frontIn b .count) (cardOf b) ≡ bookText b
 unfolding bookText
 cards-text b none = simp none
+
+pub card-text : (b table label key : List ℕ) (i : ℕ) → table ≡ tableIn b → label ≡ labelAt 14 table i → key ≡ keyOf (frontIn b) (fieldsIn b .keys) i →
+    cardLine label key ≡ cardOf b i
+unfolding cardOf
+card-text b table label key i et el ek = ap₂ cardLine (el ∙ ap (λ (t : List ℕ). labelAt 14 t i) et) ek

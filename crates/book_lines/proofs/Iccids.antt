@@ -1,19 +1,22 @@
 -- The label of an ICCID as it is lent, and the text of a lookup. Assumes nothing.
-use Prim.Native.Nat.{ℕ}
+use Prim.Native.Nat.{ℕ, _≤_}
 use mathlib.Core.Path.{_≡_, refl, ap, ap₂, _∙_}
 use mathlib.Core.Bool.{Bool, true, false, cond, _||_}
 use mathlib.Core.List.{List, []}
 use native.Mathlib.Omega.{arith}
 use lib.Dec.{eqb}
-use lib.ListN.{length, take, drop}
+use lib.ListN.{length, take, drop, length-take}
 use lib.Seq.{take-all}
 use Rattle.slices.specs.Slices.{tabulate}
 use Rattle.slices.proofs.Tabulate.{length-tabulate}
 use Rattle.book_form.specs.declared.layout.Front.{Front}
 use Rattle.book_form.specs.Book.{frontIn}
+use Rattle.report_lines.specs.ReportLines.{refusedLine}
+use Rattle.book_lookup.specs.declared.Answer.{Answer}
+use Rattle.book_lookup.specs.declared.Answer.the-variants.{Found, Absent, Refused}
 use Rattle.book_lookup.specs.declared.LookedUp.{LookedUp}
 use Rattle.book_lookup.specs.Lookup.{lookupOf}
-use Rattle.book_lines.specs.BookLines.{byteFrom, labelFrom, answerLine, lookupText}
+use Rattle.book_lines.specs.BookLines.{absentLine, byteFrom, labelFrom, keyLine, answerLine, lookupText}
 
 -- all ten bytes or none
 all-or-none : (t : Bool) (l : List ℕ) → length l ≡ 10 → take (cond t 10 0) (drop 0 l) ≡ cond t l []
@@ -33,3 +36,21 @@ pub answer-text : (b iccid p : List ℕ) (r : LookedUp) (h : Front) → r ≡ lo
 unfolding lookupText
 answer-text b iccid p r h er eh ep =
     ap (answerLine (r .answer)) ep ∙ ap₂ (λ (s : LookedUp) (g : Front). answerLine (s .answer) (take (g .m) (s .key))) er eh
+
+-- what there is of a key is no longer than what holds it
+pub part-short : (l p : List ℕ) (k most : ℕ) → p ≡ take k (drop 0 l) → length l ≡ most → length p ≤ most
+part-short l p k most is long = rw (is, length-take k (drop 0 l)) (omega (arith, long))
+
+-- ---- the line by the answer's cases
+
+pub found-line : (a : Answer) (key : List ℕ) → a ≡ Found → keyLine key ≡ answerLine a key
+unfolding answerLine
+found-line a key e = rw e refl
+
+pub absent-line : (a : Answer) (key : List ℕ) → a ≡ Absent → absentLine ≡ answerLine a key
+unfolding answerLine
+absent-line a key e = rw e refl
+
+pub refused-line : (a : Answer) (key : List ℕ) (number : ℕ) → a ≡ Refused number → refusedLine number ≡ answerLine a key
+unfolding answerLine
+refused-line a key number e = rw e refl

@@ -1,53 +1,29 @@
+-- Digits, space, key and line feed, each behind the last. Assumes nothing.
+use native.Mathlib.Omega.{arith}
+use Rattle.text.specs.Text.{lineFeed}
+use Rattle.text.proofs.Appending.{appended-both}
+use Rattle.report_lines.specs.ReportLines.{spaceWord}
+use Rattle.book_lines.specs.BookLines.{cardLine}
 use borrow.Author.Needs.{needs}
 use Rattle.book_lines.proofs.card_line.Statement.{statement}
 use Rattle.book_lines.proofs.card_line.Tie as tie
-use Rattle.book_lines.proofs.card_line.Reads as reads
-use Rattle.book_lines.proofs.card_line.Lts as lts
-use Rattle.book_lines.proofs.append_label.Reads as append-label-reads
-use Rattle.hex.proofs.append_hex.Reads as append-hex-reads
-use Rattle.text.proofs.append.Reads as append-reads
-
--- src/lib.rt:77:9
-append-label-requires : tie.Need-append-label-requires
-append-label-requires c κs = search needs
-
--- src/lib.rt:78:35
-slice-aggregate-append : tie.Need-slice-aggregate-append
-slice-aggregate-append c = search needs
-
--- src/lib.rt:78:9
-append-requires : tie.Need-append-requires
-append-requires c κs = search needs
-
--- src/lib.rt:79:9
-append-hex-requires : tie.Need-append-hex-requires
-append-hex-requires c κs = search needs
-
--- src/lib.rt:80:24
-slice-aggregate-append-2 : tie.Need-slice-aggregate-append-2
-slice-aggregate-append-2 c = search needs
-
--- src/lib.rt:80:5
-append-requires-2 : tie.Need-append-requires-2
-append-requires-2 c κs = search needs
-
--- src/lib.rt:71:1
-same-length : tie.Need-same-length
-same-length c = search needs
-
--- src/lib.rt:71:1
-returns : tie.Need-returns
-returns c = ?
 
 pub card-line-spec : {M : Type 1} → statement M
+unfolding lineFeed spaceWord cardLine
 card-line-spec =
     tie.close
     (tie.spec
-    append-label-requires
-    slice-aggregate-append
-    append-requires
-    append-hex-requires
-    slice-aggregate-append-2
-    append-requires-2
-    same-length
-    returns)
+    (λ c κs. search needs)
+    (λ c. search needs)
+    (λ c κs. search needs)
+    (λ c κs. search needs)
+    (λ c. search needs)
+    (λ c κs. search needs)
+    (λ c. search needs)
+    (λ c. 
+    let label = c .before .before .before .before .before .before .before .before .before .before .before .before .before .before .before .before .append-label .ensures in
+    let key = c .before .before .before .before .before .before .before .append-hex .ensures in
+    let to-space = appended-both _ _ _ _ (omega arith) (label .0, label .1) (c .before .before .before .before .before .before .before .before .before .before .before .append .ensures) in
+    let to-key = appended-both _ _ _ _ (omega arith) to-space (key .0, key .1) in
+    let put = appended-both _ _ _ _ (omega arith) to-key (c .before .before .append2 .ensures) in
+    (put .0, put .1, omega arith)))

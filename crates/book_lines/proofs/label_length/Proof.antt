@@ -1,19 +1,12 @@
+-- By cases on the length. Assumes nothing.
+use borrow.Author.Tests.{eq-eqb, ne-eqb}
 use Rattle.book_lines.proofs.label_length.Statement.{statement}
 use Rattle.book_lines.proofs.label_length.Tie as tie
-use Rattle.book_lines.proofs.label_length.Reads as reads
-use Rattle.book_lines.proofs.label_length.Lts as lts
-
--- src/lib.rt:197:9
-returns : tie.Need-returns
-returns c = ?
-
--- src/lib.rt:200:9
-returns-2 : tie.Need-returns-2
-returns-2 c = ?
-
--- src/lib.rt:193:1
-returns-3 : tie.Need-returns-3
-returns-3 c = ?
 
 pub label-length-spec : {M : Type 1} → statement M
-label-length-spec = tie.close (tie.spec returns returns-2 returns-3)
+label-length-spec =
+    tie.close
+    (tie.spec
+    (λ c. simp (eq-eqb _ 20 (c .if1 .taken)))
+    (λ c. simp (ne-eqb _ 20 (c .before .if1 .left), eq-eqb _ 19 (c .if2 .taken)))
+    (λ c. simp (ne-eqb _ 20 (c .before .if1 .left), ne-eqb _ 19 (c .if2 .left))))
