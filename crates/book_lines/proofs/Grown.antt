@@ -71,34 +71,35 @@ digits-end start text s place next i d all =
 
 -- ---- the lines of a book
 
--- its numbers and the lines of the first i cards stand at the front of a text, and are so long
-pub record Written (b start text : List ℕ) (place i : ℕ) : Type 0 where
-  pub lines : Appended start text 0 place (sizesLine (frontIn b) ++ joined i (cardOf b))
-  pub room : place ≤ 29 + 214 * i
+-- the lines of the first i cards stand in a text behind its first line, and place is the place behind them
+pub record Written (b start text : List ℕ) (first place i : ℕ) : Type 0 where
+  pub lines : Appended start text first place (joined i (cardOf b))
+  pub room : place ≤ first + 214 * i
+  pub start-size : length start ≡ 428064
+  pub first-short : first ≤ 29
 
-pub lines-start : (b start text : List ℕ) (h : Front) (place : ℕ) → h ≡ frontIn b → text ≡ placed start 0 (sizesLine h) → place ≡ length (sizesLine h) → place ≤ 29 →
-    Written b start text place 0
+pub lines-start : (b start : List ℕ) (first : ℕ) → length start ≡ 428064 → first ≤ 29 → Written b start start first first 0
 unfolding joined
-lines-start b start text h place e put long short =
-    record {
-      lines = appended-by start text (sizesLine h) _ 0 place (put, omega (arith, long)) (ap sizesLine e ∙ sym (append-nil (sizesLine (frontIn b))));
-      room = omega (arith, short);
-    }
+lines-start b start first size short = record { lines = nothing-put start first; room = omega arith; start-size = size; first-short = short }
 
-pub lines-step : (b start text after : List ℕ) (place next i : ℕ) → Written b start text place i → length start ≡ 428064 → i < 2000 →
-    Appended text after place next (cardOf b i) → next ≤ place + 214 → Written b start after next (i + 1)
+pub lines-step : (b start text after : List ℕ) (first place next i : ℕ) → Written b start text first place i → i < 2000 →
+    Appended text after place next (cardOf b i) → next ≤ place + 214 → Written b start after first next (i + 1)
 unfolding joined
-lines-step b start text after place next i w size few put near =
-    let before = sizesLine (frontIn b) ++ joined i (cardOf b) in
-    let both = appended-both start before (cardOf b i) 0 (omega (arith, w .room)) (w .lines) put in
+lines-step b start text after first place next i w few put near =
     record {
-      lines = rw (add-one i) (appended-by start after _ _ 0 next both (append-assoc (sizesLine (frontIn b)) (joined i (cardOf b)) (cardOf b i)));
+      lines =
+          rw (add-one i) (appended-both start (joined i (cardOf b)) (cardOf b i) first (omega (arith, w .room, w .start-size, w .first-short)) (w .lines) put);
       room = omega (arith, w .room, near);
+      start-size = w .start-size;
+      first-short = w .first-short;
     }
 
-pub lines-end : (b start text : List ℕ) (place i count : ℕ) → Written b start text place i → i ≡ count → count ≡ frontIn b .count →
-    (text ≡ placed start 0 (sizesLine (frontIn b) ++ joined (frontIn b .count) (cardOf b))) × (place ≡ length (sizesLine (frontIn b) ++ joined (frontIn b .count) (cardOf b)))
-lines-end b start text place i count w all e =
-    let whole = appended-by start text _ (sizesLine (frontIn b) ++ joined (frontIn b .count) (cardOf b)) 0 place (w .lines)
-    (ap (λ (k : ℕ). sizesLine (frontIn b) ++ joined k (cardOf b)) (all ∙ e)) in
+-- all of them behind the first line
+pub lines-end : (b entry start text : List ℕ) (h : Front) (first place i : ℕ) → Written b start text first place i → h ≡ frontIn b → i ≡ h .count → length entry ≡ 428064 →
+    start ≡ placed entry 0 (sizesLine h) → first ≡ length (sizesLine h) →
+    (text ≡ placed entry 0 (sizesLine (frontIn b) ++ joined (frontIn b .count) (cardOf b))) × (place ≡ length (sizesLine (frontIn b) ++ joined (frontIn b .count) (cardOf b)))
+lines-end b entry start text h first place i w e all size put long =
+    let both = appended-both entry (sizesLine h) (joined i (cardOf b)) 0 (omega (arith, w .first-short, size)) (put, omega (arith, long)) (w .lines) in
+    let whole = appended-by entry text _ (sizesLine (frontIn b) ++ joined (frontIn b .count) (cardOf b)) 0 place both
+    (ap (λ (k : ℕ). sizesLine h ++ joined k (cardOf b)) all ∙ ap (λ (g : Front). sizesLine g ++ joined (g .count) (cardOf b)) e) in
     (whole .0, omega (arith, whole .1))
