@@ -22,10 +22,10 @@ answer-line-spec =
     (λ c. search needs)
     (λ c. front-by _ _ _ _ _ (c .before .before .key-line .ensures) (found-line _ _ (c .before .before .before .before .enum-told .given .1)))
     (λ c. search needs)
-    (λ c. 
+    (λ c.
     let put = c .before .before .append .ensures in
     front-by _ _ absentLine _ _ (put .0, omega (arith, put .1)) (absent-line _ _ (c .before .before .before .before .before .enum-told2 .given .1)))
     (λ c. search needs)
-    (λ c. 
+    (λ c.
     let put = c .before .before .refused-line .ensures in
     front-by _ _ _ _ _ (put .0, omega (arith, put .1)) (refused-line _ _ _ (c .before .before .before .before .before .answer .given .1))))

@@ -13,12 +13,12 @@ append-card-spec =
     (λ c κs. search needs)
     (λ c κs. search needs)
     (λ c κs. search needs)
-    (λ c κs. 
+    (λ c κs.
     let label = label-short _ _ _ (c .before .before .label-at .ensures) in
     let key = key-short _ _ _ _ (c .key-at .ensures) in
     omega (arith, label, key))
     (λ c. search needs)
-    (λ c. 
+    (λ c.
     let put = c .before .before .card-line .ensures in
     let label = label-short _ _ _ (c .before .before .before .before .before .label-at .ensures) in
     let key = key-short _ _ _ _ (c .before .before .before .key-at .ensures) in

@@ -12,13 +12,13 @@ unfolding halfDigit
 append-half-spec =
     tie.close
     (tie.spec
-    (λ c. 
+    (λ c.
     let none = nothing-put (c .before .before .args .text .now) (c .before .before .args .at) in
     simp (eq-eqb (c .before .before .args .half) 15 (omega (arith, c .if1 .taken))) (none .0, none .1, omega arith))
     (λ c. search needs)
     (λ c. search needs)
     (λ c κs. search needs)
     (λ c. search needs)
-    (λ c. 
+    (λ c.
     let put = c .before .before .append .ensures in
     simp (ne-eqb _ 15 (c .before .before .before .before .before .if1 .left)) (put .0, put .1, omega arith)))

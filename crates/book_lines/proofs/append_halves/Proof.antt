@@ -12,7 +12,7 @@ append-halves-spec =
     (λ c κs. search needs)
     (λ c κs. search needs)
     (λ c. search needs)
-    (λ c. 
+    (λ c.
     let low = c .before .before .before .before .before .before .append-half .ensures in
     let high = c .before .before .append-half2 .ensures in
     let put = appended-both _ _ _ _ (omega arith) (low .0, low .1) (high .0, high .1) in

@@ -13,10 +13,10 @@ book-text-spec =
     (λ c κs. search needs)
     (λ c κs. search needs)
     (λ c κs. search needs)
-    (λ c. 
+    (λ c.
     let put = c .refused-line .ensures in
     front-by _ _ _ _ _ (put .0, omega (arith, put .1))
     (refused-text _ _ (c .before .before .before .refusal-of .ensures ∙ c .before .before .before .before .read .ensures .1) (c .before .before .if1 .taken)))
     (λ c κs. (sym (c .before .before .refusal-of .ensures ∙ c .before .before .before .read .ensures .1) ∙ c .before .if1 .left, search needs))
-    (λ c. 
+    (λ c.
     front-by _ _ _ _ _ (c .all-cards .ensures) (cards-text _ (sym (c .before .before .before .refusal-of .ensures ∙ c .before .before .before .before .read .ensures .1) ∙ c .before .before .if1 .left))))

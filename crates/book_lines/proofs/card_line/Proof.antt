@@ -20,7 +20,7 @@ card-line-spec =
     (λ c. search needs)
     (λ c κs. search needs)
     (λ c. search needs)
-    (λ c. 
+    (λ c.
     let label = c .before .before .before .before .before .before .before .before .before .before .before .before .before .before .before .before .append-label .ensures in
     let key = c .before .before .before .before .before .before .before .append-hex .ensures in
     let to-space = appended-both _ _ _ _ (omega arith) (label .0, label .1) (c .before .before .before .before .before .before .before .before .before .before .before .append .ensures) in

@@ -16,7 +16,7 @@ key-line-spec =
     (λ c. search needs)
     (λ c κs. search needs)
     (λ c. search needs)
-    (λ c. 
+    (λ c.
     let key = c .before .before .before .before .before .before .before .append-hex .ensures in
     let put = appended-both _ _ _ _ (omega arith) (key .0, key .1) (c .before .before .append .ensures) in
     (put .0, omega (arith, put .1))))

@@ -16,9 +16,9 @@ lookup-text-spec =
     (λ c. search needs)
     (λ c. search needs)
     (λ c κs. search needs)
-    (λ c κs. 
+    (λ c κs.
     let long : length (c .before .before .before .before .before .looked-up .result .key) ≡ 96 = search needs in
     (part-short (c .before .before .before .before .before .looked-up .result .key) _ (c .before .before .before .front-of .result .m) _ (c .part .ensures) long, search needs))
-    (λ c. 
+    (λ c.
     front-by _ _ _ _ _ (c .answer-line .ensures)
     (answer-text _ _ _ (c .before .before .before .before .before .before .looked-up .result) (c .before .before .before .before .front-of .result) (c .before .before .before .before .before .before .looked-up .ensures) (c .before .before .before .before .front-of .ensures) (c .before .part .ensures))))

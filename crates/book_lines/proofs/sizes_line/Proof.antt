@@ -22,7 +22,7 @@ sizes-line-spec =
     (λ c. search needs)
     (λ c κs. search needs)
     (λ c. search needs)
-    (λ c. 
+    (λ c.
     let numbers = c .before .before .before .before .before .before .before .before .before .before .before .before .before .before .before .before .before .append-numbers .ensures in
     let m = c .before .before .before .before .before .before .before .before .before .before .before .before .append-number .ensures in
     let count = c .before .before .before .before .before .before .before .append-count .ensures in

@@ -14,7 +14,7 @@ append-count-spec =
     (λ c κs. search needs)
     (λ c κs. search needs)
     (λ c. search needs)
-    (λ c. 
+    (λ c.
     let word = c .before .before .before .before .before .before .append .ensures in
     let number = c .before .before .append-four .ensures in
     let put = appended-both _ _ _ _ (omega arith) word (number .0, number .1) in
