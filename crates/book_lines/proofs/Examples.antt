@@ -4,10 +4,8 @@ use mathlib.Core.List.{List, [], _∷_}
 use Prim.Native.Nat.{ℕ}
 use Rattle.slices.specs.Slices.{tabulate}
 use Rattle.text.specs.Text.{lastDigit, decimal, decimalFour, numbered, numberedFour, lineFeed}
-use Rattle.hex.specs.Hex.{hexDigit, hexByte, hex}
-use Rattle.report_lines.specs.ReportLines.{spaceWord}
 use Rattle.label.specs.Label.{halves}
-use Rattle.book_lines.specs.BookLines.{qWord, nWord, mWord, countWord, halfDigit, digitsOf, labelDigits, cardLine, sizesLine, halfOf, characterAt, byteFrom, labelFrom}
+use Rattle.book_lines.specs.BookLines.{qWord, nWord, mWord, countWord, halfDigit, digitsOf, labelDigits, sizesLine, halfOf, characterAt, byteFrom, labelFrom}
 
 -- "8944100000000000013"
 unfoldable pub nineteen : List ℕ
