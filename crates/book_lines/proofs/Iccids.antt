@@ -1,11 +1,11 @@
 -- The label of an ICCID as it is lent, and the text of a lookup. Assumes nothing.
-use Prim.Native.Nat.{ℕ, _≤_}
+use Prim.Native.Nat.{ℕ}
 use mathlib.Core.Path.{_≡_, refl, ap, ap₂, _∙_}
 use mathlib.Core.Bool.{Bool, true, false, cond, _||_}
 use mathlib.Core.List.{List, []}
 use native.Mathlib.Omega.{arith}
 use lib.Dec.{eqb}
-use lib.ListN.{length, take, drop, length-take}
+use lib.ListN.{length, take, drop}
 use lib.Seq.{take-all}
 use Rattle.slices.specs.Slices.{tabulate}
 use Rattle.slices.proofs.Tabulate.{length-tabulate}
@@ -36,10 +36,6 @@ pub answer-text : (b iccid p : List ℕ) (r : LookedUp) (h : Front) → r ≡ lo
 unfolding lookupText
 answer-text b iccid p r h er eh ep =
     ap (answerLine (r .answer)) ep ∙ ap₂ (λ (s : LookedUp) (g : Front). answerLine (s .answer) (take (g .m) (s .key))) er eh
-
--- what there is of a key is no longer than what holds it
-pub part-short : (l p : List ℕ) (k most : ℕ) → p ≡ take k (drop 0 l) → length l ≡ most → length p ≤ most
-part-short l p k most is long = rw (is, length-take k (drop 0 l)) (omega (arith, long))
 
 -- ---- the line by the answer's cases
 

@@ -119,10 +119,10 @@ fn all_cards(book: &[u8], text: &mut [u8]) -> usize
     let h = front_of(book);
     let count = h.count;
     let mut at = sizes_line(text, h);
-    let mut i = 0;
-    while i < count {
-        at = append_card(book, i, text, at);
-        i += 1;
+    let mut card = 0;
+    while card < count {
+        at = append_card(book, card, text, at);
+        card += 1;
     }
     at
 }
@@ -240,6 +240,6 @@ pub fn lookup_text<'a>(book: &'a [u8], iccid: &'a [u8], text: &mut [u8; 428064])
     let found = looked_up(book, iccid);
     let answer = found.answer;
     let key = found.key;
-    let m = front_of(book).m;
-    answer_line(text, answer, part(&key, 0, m as usize))
+    let h = front_of(book);
+    answer_line(text, answer, part(&key, 0, h.m as usize))
 }

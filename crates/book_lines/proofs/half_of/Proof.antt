@@ -12,5 +12,5 @@ half-of-spec =
     (tie.spec
     (λ c. (simp (eq-eqb (c .before .args .character) 70 (omega (arith, c .if1 .taken))), omega arith))
     (λ c. (simp (ne-eqb _ 70 (c .before .if1 .left), lt-leb 48 _ (c .if2 .taken)), omega arith))
-    (λ c. (simp (ne-eqb _ 70 (c .before .before .if1 .left), le-leb 48 _ (c .before .if2 .left), lt-leb _ 57 (c .if3 .taken)), omega arith))
-    (λ c. (simp (ne-eqb _ 70 (c .before .before .if1 .left), le-leb 48 _ (c .before .if2 .left), le-leb _ 57 (c .if3 .left)), omega arith)))
+    (λ c. (simp (ne-eqb _ 70 (c .before .before .if1 .left), le-leb 48 _ (c .before .if2 .left), lt-leb (c .before .before .before .args .character) 57 (omega (arith, c .if3 .taken))), omega arith))
+    (λ c. (simp (ne-eqb _ 70 (c .before .before .if1 .left), le-leb 48 _ (c .before .if2 .left), le-leb (c .before .before .before .args .character) 57 (omega (arith, c .if3 .left))), omega arith)))
