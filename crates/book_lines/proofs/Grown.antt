@@ -78,9 +78,10 @@ pub record Written (b start text : List ℕ) (first place i : ℕ) : Type 0 wher
   pub start-size : length start ≡ 428064
   pub first-short : first ≤ 29
 
-pub lines-start : (b start : List ℕ) (first : ℕ) → length start ≡ 428064 → first ≤ 29 → Written b start start first first 0
+pub lines-start : (b start : List ℕ) (first i : ℕ) → i ≡ 0 → length start ≡ 428064 → first ≤ 29 → Written b start start first first i
 unfolding joined
-lines-start b start first size short = record { lines = nothing-put start first; room = omega arith; start-size = size; first-short = short }
+lines-start b start first i none size short =
+    rw none (record { lines = nothing-put start first; room = omega arith; start-size = size; first-short = short })
 
 pub lines-step : (b start text after : List ℕ) (first place next i : ℕ) → Written b start text first place i → i < 2000 →
     Appended text after place next (cardOf b i) → next ≤ place + 214 → Written b start after first next (i + 1)
