@@ -13,14 +13,15 @@
  * Every other value of every argument is answered: any lengths, any bytes.
  *
  * Answers. A function that returns uint8_t answers 0, or the number of the first refusal that applies, in the
- * order that stands at the function. canvasfox_report answers a length, and the audits' number names a record
- * and a round too. Where a call is refused, every byte of every output is what it was before.
+ * order that stands at the function; canvasfox_book_lookup also answers 255, which is no refusal. canvasfox_report
+ * answers a length, and the audits' number names a record and a round too. Where a call is refused, every byte of
+ * every output is what it was before.
  *
  * Threads. No function has state of its own or keeps a pointer, so any may run at the same time in any threads,
  * on slices as above. Each returns. A call uses less than 32 KiB of stack.
  *
  * That every answer and every output byte is as this file says is proved of the functions' source (crates/capi).
- * Document 01 decides what a system, a record, a round and a finding are.
+ * Document 01 decides what a system, a record, a round and a finding are, document 02 what a key book is.
  */
 #ifndef CANVASFOX_H
 #define CANVASFOX_H
@@ -38,10 +39,15 @@ extern "C" {
 #define CANVASFOX_LENGTH 2      /* a slice's length is wrong */
 #define CANVASFOX_ELEMENT 3     /* an element is not below q */
 #define CANVASFOX_CHALLENGE 4   /* a challenge is outside its values, or is Ch*, the one not answered */
-#define CANVASFOX_RECORD 6      /* a record's size, edition, table or total length is wrong */
+#define CANVASFOX_RECORD 6      /* a record's or a book's size, edition, count, table or total length is wrong */
 #define CANVASFOX_MISMATCH 7    /* the system's q, n, m are not the record's, or audited records differ */
 #define CANVASFOX_REJECTED 8    /* a round of an audited record is rejected */
 #define CANVASFOX_NO_FULL_SET 9 /* no round has a full set of challenges */
+#define CANVASFOX_LABEL 12      /* a label has a wrong half */
+#define CANVASFOX_NOT_ABOVE 13  /* a label of a book is not above the one before */
+
+/* No refusal: no card of a book has the label that was looked up. */
+#define CANVASFOX_ABSENT 255
 
 /* Lengths in bytes. */
 #define CANVASFOX_DIGEST_BYTES 32
@@ -51,6 +57,10 @@ extern "C" {
 #define CANVASFOX_TEXT_BYTES 8192
 #define CANVASFOX_INPUT_MOST 65536
 #define CANVASFOX_FINDING_BYTES 752
+#define CANVASFOX_LABEL_BYTES 10
+#define CANVASFOX_BOOK_FIELDS_BYTES 7
+#define CANVASFOX_KEY_BYTES 96
+#define CANVASFOX_CARDS_MOST 2000
 
 /* The SHA-256 digest of a message.
  * 2: the message has more than 65,535 bytes, or the digest not 32. */
@@ -134,6 +144,31 @@ uint32_t canvasfox_audit_five(const uint8_t *system, size_t system_length,
                               const uint8_t *c, size_t c_length,
                               const uint8_t *d, size_t d_length,
                               uint8_t *finding, size_t finding_length);
+
+/* The key book of a delivery, for `count` cards: count, four bytes, the lowest first, q, n, m; then for each card its
+ * label and where its key stands, four bytes, the lowest first; then the keys. A label is an ICCID in ten bytes, two
+ * digits a byte, the first in the low half; the twentieth half may be F. Labels rise, digit by digit, F after 9.
+ * labels has 10 * count bytes and keys m * count, the cards in order; book has 7 + count * (14 + m).
+ * 6: count is above 2,000. 1: q, n or m. 2: the length of labels, keys or book. Then of the first label at fault 12, a
+ * wrong half, or 13, not above the one before. 3: a byte of a key is not below q. */
+uint8_t canvasfox_book_write(uint32_t count, uint8_t q, uint8_t n, uint8_t m,
+                             const uint8_t *labels, size_t labels_length,
+                             const uint8_t *keys, size_t keys_length,
+                             uint8_t *book, size_t book_length);
+
+/* A book's count, q, n and m: its first seven bytes, to fields, which has 7.
+ * 2 where fields has not 7 bytes, whatever the book is; then the book's own: 6: under 7 bytes, or a count above 2,000.
+ * 1: q, n or m. 6: the table, or the total length. Then of the first label at fault 12 or 13. 3: a byte of a key. */
+uint8_t canvasfox_book_read(const uint8_t *book, size_t book_length,
+                            uint8_t *fields, size_t fields_length);
+
+/* The key of the card with this label, to key, which has 96 bytes: the key, and zeros beyond m.
+ * The answer is 0 where it is found, 255 where it is absent, else the refusal's number; key is written where it is 0.
+ * 2 where key has not 96 bytes, whatever the book is; then the lookup's own: the book's own; 2: the label has not ten
+ * bytes. 12: it has a wrong half. The whole book is checked in every call. */
+uint8_t canvasfox_book_lookup(const uint8_t *book, size_t book_length,
+                              const uint8_t *label, size_t label_length,
+                              uint8_t *key, size_t key_length);
 
 #ifdef __cplusplus
 }

@@ -25,6 +25,16 @@ pub const TEXT: usize = 8192;
 /// The bytes of a finding, as `slices::audit_three` lays them out.
 pub const FINDING: usize = 752;
 
+/// The bytes of a label, and of the first part of a key book.
+pub const LABEL: usize = 10;
+pub const BOOK_FIELDS: usize = 7;
+
+/// The bytes of a key, as `slices::book_lookup` writes it.
+pub const KEY: usize = 96;
+
+/// What `slices::book_lookup` answers where no card has the label.
+pub const ABSENT: u8 = 255;
+
 /// The SHA-256 digest of a message.
 pub fn sha256(message: &[u8]) -> Result<[u8; DIGEST], Refusal> {
     let mut digest = [0; DIGEST];
@@ -124,6 +134,43 @@ pub fn report(input: &[u8]) -> String {
     let length = slices::report(input, &mut text);
     text.truncate(length);
     String::from_utf8(text).expect("a report is ASCII")
+}
+
+/// A key book's count, q, n and m.
+#[derive(Clone, Copy, Debug, PartialEq, Eq)]
+pub struct BookFields {
+    pub count: u32,
+    pub q: u8,
+    pub n: u8,
+    pub m: u8,
+}
+
+/// The key book of a delivery: the labels and the keys of all cards, one behind the other.
+pub fn book_write(fields: BookFields, labels: &[u8], keys: &[u8]) -> Result<Vec<u8>, Refusal> {
+    let BookFields { count, q, n, m } = fields;
+    // No book has more cards; a larger count is refused, whatever the length.
+    let cards = count.min(2000) as usize;
+    let mut book = vec![0; BOOK_FIELDS + cards * (LABEL + 4 + usize::from(m))];
+    let number = slices::book_write(count, [q, n, m], labels, keys, &mut book);
+    Refusal::or(number, book)
+}
+
+/// Reads a key book.
+pub fn book_read(book: &[u8]) -> Result<BookFields, Refusal> {
+    let mut bytes = [0; BOOK_FIELDS];
+    let number = slices::book_read(book, &mut bytes);
+    let [a, b, c, d, q, n, m] = bytes;
+    let count = u32::from_le_bytes([a, b, c, d]);
+    Refusal::or(number, BookFields { count, q, n, m })
+}
+
+/// The key of the card with this label, and zeros beyond m; nothing where no card has it.
+pub fn book_lookup(book: &[u8], label: &[u8]) -> Result<Option<[u8; KEY]>, Refusal> {
+    let mut key = [0; KEY];
+    match slices::book_lookup(book, label, &mut key) {
+        ABSENT => Ok(None),
+        number => Refusal::or(number, Some(key)),
+    }
 }
 
 /// What an audit found.

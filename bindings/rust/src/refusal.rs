@@ -11,7 +11,7 @@ pub enum Refusal {
     Element,
     /// 4: a challenge is outside its values, or is Ch*, the one not answered.
     Challenge,
-    /// 6: a record's size, edition, table or total length is wrong.
+    /// 6: a record's or a book's size, edition, count, table or total length is wrong.
     Record,
     /// 7: the system's q, n, m are not the record's, or audited records differ.
     Mismatch,
@@ -19,9 +19,13 @@ pub enum Refusal {
     Rejected,
     /// 9: no round has a full set of challenges.
     NoFullSet,
+    /// 12: a label has a wrong half.
+    Label,
+    /// 13: a label of a book is not above the one before.
+    NotAbove,
 }
 
-const NUMBERED: [(u8, Refusal); 8] = [
+const NUMBERED: [(u8, Refusal); 10] = [
     (1, Refusal::Value),
     (2, Refusal::Length),
     (3, Refusal::Element),
@@ -30,6 +34,8 @@ const NUMBERED: [(u8, Refusal); 8] = [
     (7, Refusal::Mismatch),
     (8, Refusal::Rejected),
     (9, Refusal::NoFullSet),
+    (12, Refusal::Label),
+    (13, Refusal::NotAbove),
 ];
 
 impl Refusal {

@@ -52,6 +52,32 @@ extern "C" {
         text: *mut u8,
         text_len: usize,
     ) -> usize;
+    fn canvasfox_book_write(
+        count: u32,
+        q: u8,
+        n: u8,
+        m: u8,
+        labels: *const u8,
+        labels_len: usize,
+        keys: *const u8,
+        keys_len: usize,
+        book: *mut u8,
+        book_len: usize,
+    ) -> u8;
+    fn canvasfox_book_read(
+        book: *const u8,
+        book_len: usize,
+        fields: *mut u8,
+        fields_len: usize,
+    ) -> u8;
+    fn canvasfox_book_lookup(
+        book: *const u8,
+        book_len: usize,
+        label: *const u8,
+        label_len: usize,
+        key: *mut u8,
+        key_len: usize,
+    ) -> u8;
     fn canvasfox_audit_three(
         system: *const u8,
         system_len: usize,
@@ -225,6 +251,53 @@ pub fn audit_five(
             d.len(),
             finding.as_mut_ptr(),
             finding.len(),
+        )
+    }
+}
+
+/// The key book of a delivery, to 7 + count * (14 + m) bytes.
+pub fn book_write(
+    count: u32,
+    [q, n, m]: [u8; 3],
+    labels: &[u8],
+    keys: &[u8],
+    book: &mut [u8],
+) -> u8 {
+    // SAFETY: slices by their own pointers and lengths, as above.
+    unsafe {
+        canvasfox_book_write(
+            count,
+            q,
+            n,
+            m,
+            labels.as_ptr(),
+            labels.len(),
+            keys.as_ptr(),
+            keys.len(),
+            book.as_mut_ptr(),
+            book.len(),
+        )
+    }
+}
+
+/// A book's first seven bytes: its count, the lowest byte first, q, n and m.
+pub fn book_read(book: &[u8], fields: &mut [u8]) -> u8 {
+    // SAFETY: slices by their own pointers and lengths, as above.
+    unsafe { canvasfox_book_read(book.as_ptr(), book.len(), fields.as_mut_ptr(), fields.len()) }
+}
+
+/// The key of the card with this label, to 96 bytes, zero beyond m. The answer is `ABSENT` where no card
+/// has it, and the key then stays.
+pub fn book_lookup(book: &[u8], label: &[u8], key: &mut [u8]) -> u8 {
+    // SAFETY: slices by their own pointers and lengths, as above.
+    unsafe {
+        canvasfox_book_lookup(
+            book.as_ptr(),
+            book.len(),
+            label.as_ptr(),
+            label.len(),
+            key.as_mut_ptr(),
+            key.len(),
         )
     }
 }

@@ -9,7 +9,6 @@ use lib.Seq.{length-take-le, take-all, take-add, take-at, drop-at, take-take, ge
 use Rattle.slices.specs.Slices.{_!_, piece, joined, word, number}
 use Rattle.slices.proofs.Joined.{joined-pieces, length-joined, joined-at, joined-same, piece-long}
 use Rattle.slices.proofs.Words.{length-word, number-word, word-number}
-use Rattle.field.specs.Vector.{Elements}
 use Rattle.book_form.specs.declared.layout.Front.{Front}
 use Rattle.book_form.specs.Book.{frontBytes, offsetOf, bookLength, labelOf, entry, Fields, written, frontIn, tableIn, fieldsIn}
 use Rattle.book_form.specs.Labels.{labelAt}

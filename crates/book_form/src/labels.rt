@@ -29,10 +29,9 @@ fn is_above(bytes: &[u8], each: u8, i: u32) -> bool
 fn label_refusal(bytes: &[u8], each: u8, i: u32) -> u8
     ensures { λ r. ⌜ r ≡ labelRefusal each (now (bytes .entry)) i ⌝ }
 {
-    first(
-        unless(is_label(label_at(bytes, each, i)), 12),
-        unless(is_above(bytes, each, i), 13),
-    )
+    let halves = unless(is_label(label_at(bytes, each, i)), 12);
+    let order = unless(is_above(bytes, each, i), 13);
+    first(halves, order)
 }
 
 // The refusal of the first card at fault; it ends there.

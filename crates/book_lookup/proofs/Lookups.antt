@@ -1,8 +1,8 @@
 -- What the lookup answers: absent exactly where no card has the label, else the key of the one card that has it; refused exactly where the book or the label is
 -- not well-formed. Assumes nothing.
-use Prim.Native.Nat.{ℕ, _+_, _-_, _≤_, _<_}
+use Prim.Native.Nat.{ℕ, _+_, _-_, _<_}
 use mathlib.Core.Path.{_≡_, refl, sym, ap, subst, _∙_}
-use mathlib.Core.Bool.{Bool, true, false, cond}
+use mathlib.Core.Bool.{Bool, true, false}
 use mathlib.Core.Logic.{_↔_}
 use mathlib.Core.List.{List}
 use native.Mathlib.Omega.{arith}
@@ -14,7 +14,7 @@ use Rattle.slices.proofs.Sameness.{same-true, same-by}
 use Rattle.field.specs.Vector.{asVector}
 use Rattle.refusal.specs.Refusal.{firstWhere}
 use Rattle.refusal.proofs.Refusals.{first-zero, later-zero, test-holds, both-zero, unless-holds}
-use Rattle.refusal.proofs.Search.{where-none, none-where, found-where, where-found}
+use Rattle.refusal.proofs.Search.{none-where, where-found}
 use Rattle.label.specs.Label.{WellFormedLabel}
 use Rattle.label.specs.Tests.{isLabel}
 use Rattle.label.proofs.Labels.{well-formed as well-formed-label, is-label}

@@ -1,5 +1,5 @@
 -- A search that leaves out half of the cards each time, and the card that it ends at. Assumes nothing.
-use Prim.Native.Nat.{ℕ, _+_, _-_, _/_, _≤_, _<_}
+use Prim.Native.Nat.{ℕ, _+_, _≤_, _<_}
 use mathlib.Core.Path.{_≡_, refl, sym, ap, subst, _∙_}
 use mathlib.Core.Bool.{Bool, true, false, false≢true}
 use mathlib.Core.Logic.{⊎-elim}
@@ -10,9 +10,8 @@ use native.Mathlib.Omega.{arith}
 use lib.ListN.{length}
 use Rattle.slices.specs.Slices.{same}
 use Rattle.slices.proofs.Sameness.{same-true}
-use Rattle.refusal.specs.Refusal.{firstWhere}
-use Rattle.refusal.proofs.Search.{Nowhere, none-where, where-found}
-use Rattle.label.specs.Label.{WellFormedLabel, Below}
+use Rattle.refusal.proofs.Search.{none-where, where-found}
+use Rattle.label.specs.Label.{Below}
 use Rattle.label.specs.Tests.{isBelow}
 use Rattle.label.proofs.Labels.{below, is-below, below-ten}
 use Rattle.label.proofs.Order.{below-trans, not-below-itself}

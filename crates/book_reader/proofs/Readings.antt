@@ -1,13 +1,11 @@
 -- What an answer of the reader tells. Assumes nothing.
 use Prim.Native.Nat.{ℕ}
-use mathlib.Core.Path.{_≡_, refl, sym, ap, _∙_}
+use mathlib.Core.Path.{_≡_, refl, sym}
 use mathlib.Core.Bool.{Bool, true, false}
 use mathlib.Core.List.{List}
 use lib.Dec.{eqb}
 use borrow.Author.Tests.{eqb-true, eqb-false, ne-eqb}
-use Rattle.book_form.specs.declared.layout.Front.{Front}
 use Rattle.book_form.specs.Book.{frontIn}
-use Rattle.book_reader.specs.declared.Reading.{Reading}
 use Rattle.book_reader.specs.declared.Reading.the-variants.{Good, Refused}
 use Rattle.book_reader.specs.Reader.{bookRefusal, refusalOf, readingOf}
 

@@ -1,24 +1,23 @@
 -- A book is refused exactly when it is not well-formed; and what was written is read as it was. Assumes nothing.
-use Prim.Native.Nat.{ℕ, _+_, _*_, _≤_, _<_}
-use mathlib.Core.Path.{_≡_, refl, sym, ap, subst, _∙_}
+use Prim.Native.Nat.{ℕ, _*_, _≤_, _<_}
+use mathlib.Core.Path.{_≡_, sym, ap, subst, _∙_}
 use mathlib.Core.Bool.{true}
 use mathlib.Core.Logic.{_↔_}
 use mathlib.Core.List.{List}
 use native.Mathlib.Omega.{arith}
 use native.Mathlib.Nat.{mul-le-mul}
-use lib.Dec.{leb, eqb}
+use lib.Dec.{leb}
 use lib.ListN.{length, take, drop}
 use borrow.Author.Tests.{leb-true, le-leb, eq-eqb}
 use Rattle.slices.specs.Slices.{piece, number}
-use Rattle.refusal.specs.Refusal.{unless}
 use Rattle.refusal.proofs.Refusals.{first-zero, later-zero, test-holds, equal-holds, both-zero, unless-holds, firstOf-each, firstOf-none}
-use Rattle.field.specs.Vector.{Elements, allBelow}
+use Rattle.field.specs.Vector.{allBelow}
 use Rattle.field.proofs.Elements.{all-below-at, at-all-below}
 use Rattle.system.specs.System.{areSizes}
 use Rattle.system.proofs.SystemLayout.{sizes, sizes-true}
 use Rattle.book_form.specs.declared.layout.Front.{Front}
 use Rattle.book_form.specs.Book.{offsetOf, bookLength, labelOf, Fields, written, frontIn, tableIn, fieldsIn, Valid, WellFormedBook}
-use Rattle.book_form.specs.Labels.{labelAt, labelsRefusal}
+use Rattle.book_form.specs.Labels.{labelAt}
 use Rattle.book_form.proofs.BookLayout.{Bytes, LaidOut, front-written, fields-written, length-written, offset-written, label-written, labels-size, keys-size, label-read, written-fields}
 use Rattle.book_form.proofs.Rising.{Rising, rising, none-refused, rising-same}
 use Rattle.book_reader.specs.Reader.{offsetRefusal, offsetsRefusal, frontRefusal, bookRefusal}

@@ -17,8 +17,6 @@ use slices::number;
 use slices::part;
 use system::are_sizes;
 ghost use mathlib.Core.Path.{_≡_};
-ghost use Prim.Native.Nat.{_*_};
-ghost use lib.ListN.{take, drop};
 ghost use Rattle.book_form.specs.Book.{frontIn, tableIn, fieldsIn};
 ghost use Rattle.book_reader.specs.Reader.{offsetRefusal, offsetsRefusal, frontRefusal, bookRefusal, refusalOf, readingOf};
 

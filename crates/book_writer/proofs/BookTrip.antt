@@ -1,27 +1,25 @@
 -- The writer takes exactly the fields of a well-formed book, the reader gives them back, and what the reader takes is written as it was. Assumes nothing.
-use Prim.Native.Nat.{ℕ, _*_, _≤_, _<_}
+use Prim.Native.Nat.{ℕ, _*_, _<_}
 use mathlib.Core.Path.{_≡_, refl, sym, ap, _∙_}
-use mathlib.Core.Bool.{true}
 use mathlib.Core.Logic.{_↔_}
 use mathlib.Core.List.{List}
 use native.Mathlib.Omega.{arith}
-use lib.Dec.{leb, eqb}
+use lib.Dec.{leb}
 use lib.ListN.{length}
 use borrow.Author.Tests.{leb-true, le-leb, eq-eqb}
-use Rattle.refusal.specs.Refusal.{unless}
 use Rattle.refusal.proofs.Refusals.{first-zero, later-zero, test-holds, equal-holds, both-zero, unless-holds}
 use Rattle.field.specs.Vector.{allBelow}
 use Rattle.field.proofs.Elements.{all-below-at, at-all-below}
 use Rattle.system.specs.System.{areSizes}
 use Rattle.system.proofs.SystemLayout.{sizes, sizes-true}
 use Rattle.book_form.specs.Book.{bookLength, labelOf, Fields, written, frontIn, fieldsIn, Valid}
-use Rattle.book_form.specs.Labels.{labelAt, labelsRefusal}
+use Rattle.book_form.specs.Labels.{labelAt}
 use Rattle.book_form.proofs.BookLayout.{Bytes, front-written, fields-written, written-fields}
-use Rattle.book_form.proofs.Rising.{Rising, rising, none-refused}
+use Rattle.book_form.proofs.Rising.{rising, none-refused}
 use Rattle.book_reader.specs.Reader.{bookRefusal, readingOf}
 use Rattle.book_reader.specs.declared.Reading.the-variants.{Good}
 use Rattle.book_reader.proofs.Readings.{reading-good}
-use Rattle.book_reader.proofs.WellFormed.{Accepted, accepted, valid-fields, written-accepted}
+use Rattle.book_reader.proofs.WellFormed.{accepted, valid-fields, written-accepted}
 use Rattle.book_writer.specs.Writer.{lengthsRefusal, writeRefusal}
 
 -- ---- what the writer takes

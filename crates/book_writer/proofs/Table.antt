@@ -1,6 +1,6 @@
 -- A table that is put entry by entry. Assumes nothing.
-use Prim.Native.Nat.{ℕ, suc, _+_, _*_, _≤_, _<_}
-use mathlib.Core.Path.{_≡_, refl, sym, ap, ap₂, _∙_}
+use Prim.Native.Nat.{ℕ, _+_, _*_, _≤_, _<_}
+use mathlib.Core.Path.{_≡_, refl, sym, ap, _∙_}
 use mathlib.Core.List.{List, _++_, append-assoc, append-nil}
 use native.Mathlib.Omega.{arith}
 use native.Mathlib.Numerals.{add-one}
@@ -8,7 +8,7 @@ use lib.ListN.{length, take}
 use Rattle.slices.specs.Slices.{placed, joined}
 use Rattle.slices.proofs.Parts.{placed-next, length-placed}
 use Rattle.book_form.specs.declared.layout.Front.{Front}
-use Rattle.book_form.specs.Book.{Fields, entry}
+use Rattle.book_form.specs.Book.{entry}
 use Rattle.book_form.proofs.BookLayout.{entry-long}
 use Rattle.book_writer.specs.Writer.{fieldsOf}
 

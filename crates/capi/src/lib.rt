@@ -1,7 +1,7 @@
 // The C interface: `rt staticlib capi` makes the archive, include/canvasfox.h declares its functions.
 //
 // Each takes any bytes and has the equations of the entry behind it. It answers 0, or the number of the refusal, and then
-// every output is what it was; the report answers its text's length.
+// every output is what it was; the report answers its text's length, and the lookup 255 where a label is absent.
 mod layouts;
 
 use crate::layouts::answer;
@@ -27,6 +27,10 @@ ghost use Rattle.reporting.specs.Report.{reportLength, reportOut};
 ghost use Rattle.auditing.specs.Outcome.{answerOf};
 ghost use Rattle.auditing.specs.Audit.{auditThree, auditFive};
 ghost use Rattle.finding_layout.specs.FindingLayout.{findingBytes};
+ghost use Rattle.book_form.specs.Book.{written};
+ghost use Rattle.book_writer.specs.Writer.{frontOf, fieldsOf, writeRefusal};
+ghost use Rattle.book_lookup.specs.Lookup.{lookupOf};
+ghost use Rattle.capi_books.specs.Numbers.{frontRefusal, lookupNumber};
 ghost use Rattle.capi.specs.Layouts.{fieldsBytes, fieldsRefusal, auditRefusal};
 
 // The digest of a message.
@@ -156,4 +160,39 @@ pub extern "C" fn canvasfox_audit_five<'a>(
         return length_refusal(system);
     }
     answer(audit_five(system, a, b, c, d), finding)
+}
+
+// The key book of a delivery.
+#[no_mangle]
+pub extern "C" fn canvasfox_book_write<'a>(
+    count: u32,
+    q: u8,
+    n: u8,
+    m: u8,
+    labels: &'a [u8],
+    keys: &'a [u8],
+    book: &mut [u8],
+) -> u8
+    ensures { λ r. ⌜ (r ≡ writeRefusal (fieldsOf (frontOf count q n m) (now (labels .entry)) (now (keys .entry))) (length (now (book .entry))))
+        × (now (book .exit) ≡ kept r (now (book .entry)) (written (fieldsOf (frontOf count q n m) (now (labels .entry)) (now (keys .entry))))) ⌝ }
+{
+    book_writer::write(count, q, n, m, labels, keys, book)
+}
+
+// A book's first seven bytes.
+#[no_mangle]
+pub extern "C" fn canvasfox_book_read(book: &[u8], fields: &mut [u8]) -> u8
+    ensures { λ r. ⌜ (r ≡ frontRefusal (now (book .entry)) (length (now (fields .entry))))
+        × (now (fields .exit) ≡ kept r (now (fields .entry)) (take 7 (now (book .entry)))) ⌝ }
+{
+    capi_books::read_fields(book, fields)
+}
+
+// The key of the card with this label.
+#[no_mangle]
+pub extern "C" fn canvasfox_book_lookup<'a>(book: &'a [u8], label: &'a [u8], key: &mut [u8]) -> u8
+    ensures { λ r. ⌜ (r ≡ lookupNumber (now (book .entry)) (now (label .entry)) (length (now (key .entry))))
+        × (now (key .exit) ≡ kept r (now (key .entry)) (lookupOf (now (book .entry)) (now (label .entry)) .key)) ⌝ }
+{
+    capi_books::lookup_key(book, label, key)
 }

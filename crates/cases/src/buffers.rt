@@ -23,3 +23,10 @@ pub fn record_buffer() -> [u8; 131072]
 {
     [0; 131072]
 }
+
+// The same for a book, its labels or its keys.
+pub fn book_buffer() -> [u8; 262144]
+    ensures { λ r. ⌜ (r ≡ zeros 262144) × (262144 ≡ length r) ⌝ }
+{
+    [0; 262144]
+}

@@ -7,6 +7,7 @@ mod buffers;
 mod piece;
 mod run;
 
+pub use buffers::book_buffer;
 pub use buffers::file_buffer;
 pub use buffers::record_buffer;
 pub use buffers::system_buffer;

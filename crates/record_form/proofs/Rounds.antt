@@ -1,14 +1,12 @@
 -- Fields and rounds: the parts of an exchange one behind the other are the exchange, those of a body the body, for every length that is right; the rounds of fields
 -- that were made of rounds are those, and fields are those of their rounds. Assumes nothing.
-use Prim.Native.Nat.{ℕ, zero, suc, _+_, _*_, _≤_, _<_}
-use mathlib.Core.Path.{_≡_, refl, sym, ap, ap₂, subst, _∙_}
+use Prim.Native.Nat.{ℕ, suc, _+_, _<_}
+use mathlib.Core.Path.{_≡_, sym, ap, subst, _∙_}
 use mathlib.Core.List.{List, [], _∷_, _++_}
-use native.Mathlib.Nat.{lt-of-not-le, mul-le-mul-right, zero-mul, suc-mul}
 use native.Mathlib.Numerals.{add-one}
-use native.Mathlib.Decide.{decLe}
 use native.Mathlib.Omega.{arith}
 use lib.ListN.{length, take, drop, length-append, length-drop}
-use lib.Seq.{length-take-le, take-all, take-add, take-at, drop-at, getD-at, take-take, take-append-le, drop-append-le, append-snoc, split-at}
+use lib.Seq.{length-take-le, take-all, take-at, drop-at, getD-at, take-take, append-snoc, split-at}
 use Rattle.slices.specs.Slices.{_!_, joined}
 use Rattle.slices.proofs.Joined.{joined-pieces, length-joined, joined-at, joined-same, piece-long}
 use Rattle.scheme.specs.Scheme as S

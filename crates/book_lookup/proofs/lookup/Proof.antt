@@ -5,9 +5,9 @@ use mathlib.Core.List.{List}
 use Rattle.slices.specs.Slices.{number}
 use Rattle.book_form.specs.Book.{frontIn, tableIn}
 use Rattle.book_form.specs.Labels.{labelsRefusal}
-use Rattle.book_lookup.specs.declared.Answer.the-variants.{Found, Absent, Refused}
+use Rattle.book_lookup.specs.declared.Answer.the-variants.{Found, Refused}
 use Rattle.book_lookup.specs.declared.LookedUp.{LookedUp}
-use Rattle.book_lookup.specs.Lookup.{placeIn, keyIn, noKey, lookupRefusal, lookupOf}
+use Rattle.book_lookup.specs.Lookup.{placeIn, keyIn, noKey, lookupRefusal}
 use Rattle.book_lookup.proofs.Lookups.{looked-refused, looked-absent, looked-found, labels-not-refused}
 use borrow.Author.Needs.{needs}
 use Rattle.book_lookup.proofs.lookup.Statement.{statement}

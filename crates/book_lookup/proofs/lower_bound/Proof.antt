@@ -1,11 +1,10 @@
 -- The invariant: the labels before low stand below, and those from high on do not. Assumes nothing.
-use Prim.Native.Nat.{ℕ, _-_, _+_, _/_, _≤_, _<_}
-use mathlib.Core.Path.{_≡_, refl, sym, ap, _∙_}
+use Prim.Native.Nat.{ℕ, _-_, _+_, _/_}
+use mathlib.Core.Path.{refl, sym, ap, _∙_}
 use mathlib.Core.List.{List}
 use native.Mathlib.Omega.{arith}
 use borrow.Author.Needs.{needs}
 use Rattle.label.specs.Tests.{isBelow}
-use Rattle.book_lookup.specs.Lookup.{LowerBound}
 use Rattle.book_lookup.proofs.Search.{Between, all-left, upper-left, lower-left, bound}
 use Rattle.book_lookup.proofs.lower_bound.Statement.{statement}
 use Rattle.book_lookup.proofs.lower_bound.Tie as tie

@@ -1,6 +1,6 @@
 -- Each piece behind the last, to the end. Assumes nothing.
 use Prim.Native.Nat.{ℕ, _+_, _*_, _≤_}
-use mathlib.Core.Path.{_≡_, refl, sym, ap, ap₂, _∙_}
+use mathlib.Core.Path.{_≡_, refl, ap, _∙_}
 use mathlib.Core.List.{List, _++_, _∷_, []}
 use native.Mathlib.Omega.{arith}
 use native.Mathlib.Nat.{zero-mul}

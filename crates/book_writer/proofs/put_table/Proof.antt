@@ -1,14 +1,8 @@
 -- The invariant: the first i entries stand behind the first seven bytes. Assumes nothing.
-use Prim.Native.Nat.{ℕ, _+_, _-_, _*_, _≤_, _<_}
-use mathlib.Core.Path.{_≡_, refl, ap, _∙_}
-use mathlib.Core.List.{List, _++_, append-assoc, append-nil}
+use Prim.Native.Nat.{_-_, _≤_}
+use mathlib.Core.Path.{_≡_}
 use native.Mathlib.Omega.{arith}
-use native.Mathlib.Numerals.{add-one}
 use borrow.Author.Needs.{needs}
-use lib.ListN.{length, take}
-use Rattle.slices.specs.Slices.{joined}
-use Rattle.book_form.specs.declared.layout.Front.{Front}
-use Rattle.book_form.specs.Book.{entry}
 use Rattle.book_writer.proofs.Table.{TableTo, table-start, table-step, table-end}
 use borrow.Author.Needs.{needs}
 use Rattle.book_writer.proofs.put_table.Statement.{statement}

@@ -1,6 +1,5 @@
 -- One branch: what is refused stays, else the book is written. Assumes nothing.
 use mathlib.Core.Path.{refl, sym, _∙_}
-use native.Mathlib.Omega.{arith}
 use Rattle.refusal.proofs.Refusals.{kept-refused, kept-accepted}
 use Rattle.book_writer.proofs.BookTrip.{taken}
 use borrow.Author.Needs.{needs}

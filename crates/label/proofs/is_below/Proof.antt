@@ -1,9 +1,8 @@
 -- The invariant: the answer is that of the bytes from i on. Assumes nothing.
 use Prim.Native.Nat.{_-_, _≤_}
-use mathlib.Core.Path.{_≡_, refl, sym, _∙_}
+use mathlib.Core.Path.{_≡_, refl, _∙_}
 use native.Mathlib.Omega.{arith}
 use lib.ListN.{length}
-use Rattle.slices.specs.Slices.{_!_}
 use Rattle.label.specs.Label.{halves}
 use Rattle.label.specs.Tests.{rises}
 use Rattle.label.proofs.Labels.{fromByte, from-start, from-step, from-here, from-end, ten-below, first-not-ten, second-not-ten}

@@ -1,5 +1,4 @@
 -- The first label, or its neighbour and it. Assumes nothing.
-use Prim.Native.Nat.{_-_}
 use borrow.Author.Tests.{eq-eqb, ne-eqb}
 use Rattle.book_form.specs.Labels.{isAbove}
 use borrow.Author.Needs.{needs}

@@ -1,5 +1,4 @@
 -- The table, then the keys before. Assumes nothing.
-use mathlib.Core.Path.{_≡_}
 use native.Mathlib.Omega.{arith}
 use Rattle.book_form.specs.Book.{offsetOf}
 use borrow.Author.Needs.{needs}

@@ -1,5 +1,5 @@
 -- The number of the part; it has 32 bits. Assumes nothing.
-use mathlib.Core.Path.{_≡_, ap, _∙_}
+use mathlib.Core.Path.{ap, _∙_}
 use native.Mathlib.Omega.{arith}
 use Rattle.slices.specs.Slices.{number}
 use borrow.Author.Needs.{needs}

@@ -1,0 +1,2 @@
+-- What is written by the C interface's books.
+pub mod Outputs
