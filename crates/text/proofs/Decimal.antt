@@ -1,4 +1,4 @@
--- A number below 1000 is read back from its digits, of which the first is no zero. Assumes nothing.
+-- A number below 1000, or below 10,000, is read back from its digits, of which the first is no zero. Assumes nothing.
 use Prim.Native.Nat.{ℕ, _+_, _-_, _*_, _/_, _%_, _≤_, _<_}
 use mathlib.Core.Path.{_≡_, ap, _∙_}
 use mathlib.Core.Bool.{Bool, cond}
@@ -10,7 +10,7 @@ use lib.Dec.{leb}
 use borrow.Author.Tests.{lt-ltb, le-ltb, le-leb}
 use Rattle.slices.proofs.Booleans.{and-both}
 use Rattle.slices.specs.Slices.{_!_}
-use Rattle.text.specs.Text.{lastDigit, decimal}
+use Rattle.text.specs.Text.{lastDigit, decimal, decimalFour}
 use Rattle.text.specs.Reading.{numberBehind, numberOf}
 
 -- by the number of digits
@@ -47,6 +47,17 @@ read-decimal k h =
     by-digits (λ l. numberOf l ≡ some k) k (λ one. behind-digit 0 k [] ∙ number-is _ k (omega arith))
     (λ more two. behind-digit 0 (k / 10) _ ∙ behind-digit _ k [] ∙ number-is _ k (omega arith))
     (λ three. behind-digit 0 (k / 100) _ ∙ behind-digit _ (k / 10) _ ∙ behind-digit _ k [] ∙ number-is _ k (omega arith))
+
+pub read-decimal-four : (k : ℕ) → k < 10000 → numberOf (decimalFour k) ≡ some k
+unfolding numberOf decimalFour
+read-decimal-four k h =
+    elim (decLt k 1000) [
+      | yes three ↦ simp (lt-ltb k 1000 three) (read-decimal k three)
+      | no four ↦
+          let thousands : k / 1000 % 10 ≡ k / 1000 = omega arith in
+          simp (le-ltb k 1000 (omega arith))
+          (behind-digit 0 (k / 1000) _ ∙ behind-digit _ (k / 100) _ ∙ behind-digit _ (k / 10) _ ∙ behind-digit _ k [] ∙ number-is _ k (omega arith))
+    ]
 
 pub decimal-first : (k : ℕ) → 0 < k → k < 1000 → 48 < decimal k ! 0
 unfolding lastDigit

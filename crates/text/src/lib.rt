@@ -8,7 +8,7 @@ ghost use mathlib.Core.List.{_++_};
 ghost use Prim.Native.Nat.{_+_, _≤_};
 ghost use lib.ListN.{length};
 ghost use Rattle.slices.specs.Slices.{placed};
-ghost use Rattle.text.specs.Text.{lastDigit, decimal, numbered};
+ghost use Rattle.text.specs.Text.{lastDigit, decimal, decimalFour, numbered, numberedFour};
 
 // The ASCII code of a number's last digit.
 fn last_digit(k: u8) -> u8
@@ -68,4 +68,41 @@ pub fn append_numbers(
 {
     let next = append_number(text, at, first, k);
     append_number(text, next, second, j)
+}
+
+// The same of a larger number.
+fn last_of(k: u32) -> u8
+    ensures { λ r. ⌜ r ≡ lastDigit k ⌝ }
+{
+    b'0' + (k % 10) as u8
+}
+
+// Puts a number, of four digits at most.
+fn append_four(text: &mut [u8], at: usize, k: u32) -> usize
+    requires { ⌜ at + 4 ≤ length (now text) ⌝ }
+    ensures { λ r. ⌜ (now (text .exit) ≡ placed (now (text .entry)) «at» (decimalFour k)) × (r ≡ at + length (decimalFour k)) × (r ≤ at + 4) ⌝ }
+{
+    let ones = last_of(k);
+    if k < 10 {
+        return append(text, at, &[ones]);
+    }
+    let tens = last_of(k / 10);
+    if k < 100 {
+        return append(text, at, &[tens, ones]);
+    }
+    let hundreds = last_of(k / 100);
+    if k < 1000 {
+        return append(text, at, &[hundreds, tens, ones]);
+    }
+    append(text, at, &[last_of(k / 1000), hundreds, tens, ones])
+}
+
+// Puts a word and a number below 10,000.
+pub fn append_count(text: &mut [u8], at: usize, word: &[u8], k: u32) -> usize
+    requires { ⌜ at + length (now word) + 4 ≤ length (now text) ⌝ }
+    ensures { λ r. ⌜ (now (text .exit) ≡ placed (now (text .entry)) «at» (numberedFour (now (word .entry)) k))
+        × (r ≡ at + length (numberedFour (now (word .entry)) k)) × (r ≤ at + length (now (word .entry)) + 4) ⌝ }
+{
+    let next = append(text, at, word);
+    append_four(text, next, k)
 }
