@@ -6,13 +6,13 @@
 // case, since a Rattle program has no other.
 mod file;
 
-use crate::file::Loaded;
-use crate::file::load;
 use crate::file::record_buffer;
 use crate::file::system_buffer;
 use audit_lines::Lengths;
 use audit_lines::five_text;
 use audit_lines::three_text;
+use files::Loaded;
+use files::load;
 use libc::STDERR_FILENO;
 use libc::STDOUT_FILENO;
 use slices::part;
@@ -23,6 +23,9 @@ ghost use lib.ListN.{length};
 const WITH_THREE: usize = 5;
 
 const WITH_FOUR: usize = 6;
+
+// Said where an argument can't be taken.
+const MISSING: [u8; 15] = *b"audit: argument";
 
 fn main() {
     let mut text = text_buffer();
@@ -58,16 +61,16 @@ fn audited_files(words: usize, text: &mut [u8; 2048]) -> usize {
     let mut a = record_buffer();
     let mut b = record_buffer();
     let mut c = record_buffer();
-    let Loaded::Whole(system_length) = load(1, &mut system) else {
+    let Loaded::Whole(system_length) = load(1, &MISSING, &mut system) else {
         return 0;
     };
-    let Loaded::Whole(a_length) = load(2, &mut a) else {
+    let Loaded::Whole(a_length) = load(2, &MISSING, &mut a) else {
         return 0;
     };
-    let Loaded::Whole(b_length) = load(3, &mut b) else {
+    let Loaded::Whole(b_length) = load(3, &MISSING, &mut b) else {
         return 0;
     };
-    let Loaded::Whole(c_length) = load(4, &mut c) else {
+    let Loaded::Whole(c_length) = load(4, &MISSING, &mut c) else {
         return 0;
     };
     let lengths = Lengths {
@@ -93,7 +96,7 @@ fn with_fourth<'a>(
     text: &mut [u8; 2048],
 ) -> usize {
     let mut d = record_buffer();
-    let Loaded::Whole(d_length) = load(5, &mut d) else {
+    let Loaded::Whole(d_length) = load(5, &MISSING, &mut d) else {
         return 0;
     };
     five_text(system, a, b, c, &d, lengths, d_length, text)

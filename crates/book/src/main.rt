@@ -4,13 +4,10 @@
 // or `refused` and the number. Keys are hexadecimal digits, two a byte. An ICCID has twenty characters, or nineteen, which stand
 // for the label with F at its end. Where the arguments or the file are no good, standard error says why, and standard output
 // stays empty. The exit status is 0 in every case, since a Rattle program has no other.
-mod file;
-
-use crate::file::Loaded;
-use crate::file::book_buffer;
-use crate::file::load;
 use book_lines::book_text;
 use book_lines::lookup_text;
+use files::Loaded;
+use files::load_front;
 use libc::STDERR_FILENO;
 use libc::STDOUT_FILENO;
 use slices::part;
@@ -40,6 +37,14 @@ fn text_buffer() -> [u8; 428064]
     [0; 428064]
 }
 
+// Zeros for a book: 220,007 bytes, those of 2,000 cards with m = 96, and one. Of a longer file these are read. They are as long as
+// no book is, so they are refused as the file is.
+fn book_buffer() -> [u8; 220008]
+    ensures { λ r. ⌜ (r ≡ zeros 220008) × (220008 ≡ length r) ⌝ }
+{
+    [0; 220008]
+}
+
 fn print(text: &[u8; 428064], length: usize) {
     io::write_all(STDOUT_FILENO, part(text, 0, length));
 }
@@ -54,7 +59,7 @@ fn usage() -> usize {
 // Reads the book and shows all of it, or one card where there is an ICCID.
 fn shown(words: usize, text: &mut [u8; 428064]) -> usize {
     let mut buffer = book_buffer();
-    let Loaded::Whole(length) = load(&mut buffer) else {
+    let Loaded::Whole(length) = load_front(1, b"book: argument", &mut buffer) else {
         return 0;
     };
     let book = part(&buffer, 0, length);

@@ -3,8 +3,8 @@ use Prim.Native.Nat.{ℕ}
 use mathlib.Core.Path.{refl, sym}
 use lib.ListN.{length-replicate}
 use Rattle.slices.specs.Slices.{zeros}
-use Rattle.book.proofs.file.book_buffer.Statement.{statement}
-use Rattle.book.proofs.file.book_buffer.Tie as tie
+use Rattle.book.proofs.book_buffer.Statement.{statement}
+use Rattle.book.proofs.book_buffer.Tie as tie
 
 pub book-buffer-spec : {M : Type 1} → statement M
 unfolding zeros
