@@ -6,6 +6,20 @@ use canvasfox::{slices, FINDING};
 
 mod c {
     extern "C" {
+        pub fn canvasfox_book_read(
+            book: *const u8,
+            book_len: usize,
+            fields: *mut u8,
+            fields_len: usize,
+        ) -> u8;
+        pub fn canvasfox_book_lookup(
+            book: *const u8,
+            book_len: usize,
+            label: *const u8,
+            label_len: usize,
+            key: *mut u8,
+            key_len: usize,
+        ) -> u8;
         pub fn bench_write(
             scheme: u8,
             q: u8,
@@ -86,6 +100,25 @@ mod c {
             reply: *const u8,
             reply_len: usize,
         ) -> u8;
+    }
+}
+
+/// The reader of key books, which gives the first seven bytes: the refusal's number.
+pub fn book_read(book: &[u8], fields: &mut [u8; 7]) -> u8 {
+    unsafe { c::canvasfox_book_read(book.as_ptr(), book.len(), fields.as_mut_ptr(), fields.len()) }
+}
+
+/// The lookup in a key book: 0 with the key, 255 for an absent label, or the refusal's number.
+pub fn book_lookup(book: &[u8], label: &[u8], key: &mut [u8; 96]) -> u8 {
+    unsafe {
+        c::canvasfox_book_lookup(
+            book.as_ptr(),
+            book.len(),
+            label.as_ptr(),
+            label.len(),
+            key.as_mut_ptr(),
+            key.len(),
+        )
     }
 }
 

@@ -1,5 +1,6 @@
 //! What is timed: systems of random coefficients, and records of honest sessions, made by the second implementation.
 
+use reference::label::{Label, LABEL};
 use reference::random::Generator;
 use reference::record::{write, Header, Layout};
 use reference::rounds::honest;
@@ -18,6 +19,28 @@ pub fn system(random: &mut Generator, q: u8, n: u8, m: u8) -> Vec<u8> {
 /// So many random elements.
 pub fn elements(random: &mut Generator, q: u8, count: usize) -> Vec<u8> {
     random.bytes_below(u16::from(q), count)
+}
+
+/// The most cards of a key book.
+pub const CARDS: usize = 2000;
+
+/// What the ICCIDs of a delivery have in common.
+const DELIVERY: &str = "8949020000012";
+
+/// A key book of the largest size, and the label of a card in its middle. Five digits of the ICCIDs rise by a few from card to
+/// card, and the last is any.
+pub fn book(random: &mut Generator) -> (Vec<u8>, Vec<u8>) {
+    let (q, n, m) = LARGEST;
+    let mut number = random.below(10_000);
+    let labels = (0..CARDS).map(|_| {
+        number += 1 + random.below(9);
+        let iccid = format!("{DELIVERY}{number:05}{}", random.below(10));
+        Label::of_iccid(&iccid).expect("an ICCID").bytes()
+    });
+    let labels: Vec<[u8; LABEL]> = labels.collect();
+    let keys = elements(random, q, CARDS * usize::from(m));
+    let book = reference::book::write([q, n, m], labels.as_flattened(), &keys);
+    (book, labels[CARDS * 3 / 5].to_vec())
 }
 
 /// A card with its key, and what was lent to it for each of its rounds.

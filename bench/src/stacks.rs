@@ -1,7 +1,7 @@
 //! The table of stack use.
 
 use crate::engine::{self, Round};
-use crate::inputs::{challenges_in_turn, elements, Card, Question, Session, LARGEST};
+use crate::inputs::{book, challenges_in_turn, elements, Card, Question, Session, LARGEST};
 use crate::stack::most;
 use crate::table::Table;
 use canvasfox::FINDING;
@@ -10,9 +10,9 @@ use reference::scheme::Scheme;
 
 pub const MEASURED: &str = "\
 The lowest byte of a painted stack that a call changes, at n = m = 96 and q = 251 (the report: q = 31, n = m = 48, which its
-65,536 bytes hold), over every challenge; the harness's own call is counted too, some 20 to 140 bytes. A session's calls take
-and return the session by value and are measured together, as one round in one function, whose own copies of the session count.
-The engine takes no memory from the heap and calls nothing recursively, so these do not grow with the input.
+65,536 bytes hold; a key book: 2,000 cards), over every challenge; the harness's own call is counted too, some 20 to 140 bytes.
+A session's calls take and return the session by value and are measured together, as one round in one function, whose own copies
+of the session count. The engine takes no memory from the heap and calls nothing recursively, so these do not grow with the input.
 
 ";
 
@@ -55,6 +55,8 @@ fn entries() -> Vec<(String, usize)> {
     let (card, session, five) = (&card, &session, &five);
     let (x, y, message, reported) = (&x, &y, &message, &reported);
     let (three, four) = (&three, &four);
+    let (book, label) = book(&mut random);
+    let (book, label) = (&book, &label);
     let mut lent = elements(&mut random, q, 3 * long + tall);
     lent.extend(random.bytes_below(256, 96));
     let lent = &lent;
@@ -136,6 +138,18 @@ fn entries() -> Vec<(String, usize)> {
             "audit_five",
             vec![Box::new(|| {
                 assert!(engine::audit_five(&five.system, four, &mut finding_of_five).is_ok())
+            })],
+        ),
+        (
+            "reading a book",
+            vec![Box::new(|| {
+                assert_eq!(engine::book_read(book, &mut [0; 7]), 0)
+            })],
+        ),
+        (
+            "lookup in a book",
+            vec![Box::new(|| {
+                assert_eq!(engine::book_lookup(book, label, &mut [0; 96]), 0)
             })],
         ),
     ];

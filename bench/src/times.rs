@@ -1,6 +1,6 @@
 //! The tables of times.
 
-use crate::inputs::{challenges_in_turn, elements, system, Card, LARGEST};
+use crate::inputs::{book, challenges_in_turn, elements, system, Card, CARDS, LARGEST};
 use crate::table::{micros, millis, ratio, Table};
 use crate::timing::{best, Effort, Side};
 use crate::{engine, plain};
@@ -26,7 +26,8 @@ any change of the code moves that: each time is the better of two builds, the se
 - `same form` is Rust in the form of the engine. F and G: the monomials once for a vector, then for each polynomial a product of two
   rows, in blocks of constant length. SHA-256: FIPS 180-4 as it stands, with no intrinsics. A record and an
   audit: the same monomials, hashes and checks of every byte, with no memory from the heap, and compiled apart for each q. No side
-  puts the system in another form first, as in packed bits.
+  puts the system in another form first, as in packed bits. A key book: a pass over its offsets, one over its labels and one over
+  its keys by a running maximum, with no memory from the heap, and for the lookup a search by halves, after the same checks.
 - `nested loops` is the definition: for each polynomial the double sum over i ≤ j in a running sum of 64 bits, with one division. G
   is the sum of the a(i,j)·(x_i·y_j + x_j·y_i).
 
@@ -64,6 +65,13 @@ pub fn compared(effort: Effort) -> String {
     let times = auditing(effort, &card, &records);
     let of_records = format!("3 records of {of_record}");
     table.row(row("audit", &of_records, &times, "1.02"));
+    let (book, label) = book(&mut random);
+    let (q, n, m) = LARGEST;
+    let of_book = format!("{CARDS} cards at {q}, {n}, {m}");
+    let times = reading(effort, &book);
+    table.row(row("reading a book", &of_book, &times, "1.15"));
+    let times = looking_up(effort, &book, &label);
+    table.row(row("lookup in a book", &of_book, &times, "1.15"));
     table.text().to_string()
 }
 
@@ -208,6 +216,66 @@ fn auditing(effort: Effort, card: &Card, records: &[Vec<u8>; 3]) -> Vec<f64> {
                 black_box(system),
                 black_box(records),
             ));
+        }),
+    ];
+    best(effort, &mut sides)
+}
+
+/// A key book read: the engine, then Rust.
+fn reading(effort: Effort, book: &[u8]) -> Vec<f64> {
+    let mut fields = [0; 7];
+    assert_eq!(engine::book_read(book, &mut fields), 0);
+    assert_eq!(plain::book::read(book), Ok(fields));
+    assert_eq!(fields, book[..7]);
+    spoiled_books(book);
+    let mut sides: [Side; 2] = [
+        Box::new(|| {
+            black_box(engine::book_read(black_box(book), &mut fields));
+        }),
+        Box::new(|| {
+            let _ = black_box(plain::book::read(black_box(book)));
+        }),
+    ];
+    best(effort, &mut sides)
+}
+
+/// Both sides refuse a book for a byte of its last offset, label and key, so neither leaves its last card out.
+fn spoiled_books(book: &[u8]) {
+    let keys = 7 + 14 * CARDS;
+    let entry = keys - 14;
+    let last = book.len() - 1;
+    for (at, byte, number) in [
+        (keys - 1, 1, 6),
+        (entry, 0xa8, 12),
+        (entry, 0, 13),
+        (last, 251, 3),
+    ] {
+        let mut other = book.to_vec();
+        other[at] = byte;
+        assert_eq!(engine::book_read(&other, &mut [0; 7]), number);
+        assert_eq!(plain::book::read(&other), Err(number));
+    }
+}
+
+/// A label looked up in a key book, which is read first: the engine, then Rust.
+fn looking_up(effort: Effort, book: &[u8], label: &[u8]) -> Vec<f64> {
+    let mut key = [0; 96];
+    assert_eq!(engine::book_lookup(book, label, &mut key), 0);
+    assert_eq!(plain::book::lookup(book, label), Ok(Some(key)));
+    let read = reference::book::Book::read(book).expect("a well-formed book");
+    let wanted = reference::label::Label::of_bytes(label).expect("a label");
+    assert_eq!(read.key(wanted), Some(&key[..]));
+    let absent = [0; 10];
+    assert_eq!(engine::book_lookup(book, &absent, &mut [0; 96]), 255);
+    assert_eq!(plain::book::lookup(book, &absent), Ok(None));
+    let mut sides: [Side; 2] = [
+        Box::new(|| {
+            let (book, label) = (black_box(book), black_box(label));
+            black_box(engine::book_lookup(book, label, &mut key));
+        }),
+        Box::new(|| {
+            let (book, label) = (black_box(book), black_box(label));
+            let _ = black_box(plain::book::lookup(book, label));
         }),
     ];
     best(effort, &mut sides)

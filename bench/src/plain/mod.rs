@@ -3,6 +3,7 @@
 //! Nothing here takes memory from the heap, and divisors are constants: every function is compiled once for each q.
 
 pub mod audit;
+pub mod book;
 pub mod judge;
 pub mod map;
 pub mod sha256;
