@@ -17,6 +17,8 @@ use slices::number;
 use slices::part;
 use system::are_sizes;
 ghost use mathlib.Core.Path.{_≡_};
+ghost use Prim.Native.Nat.{_+_, _*_, _≤_};
+ghost use lib.ListN.{length, take, drop};
 ghost use Rattle.book_form.specs.Book.{frontIn, tableIn, fieldsIn};
 ghost use Rattle.book_reader.specs.Reader.{offsetRefusal, offsetsRefusal, frontRefusal, bookRefusal, refusalOf, readingOf};
 
@@ -55,15 +57,18 @@ pub fn keys_of(bytes: &[u8]) -> &[u8]
 
 // The refusal of card i's offset.
 fn offset_refusal(table: &[u8], h: Front, i: u32) -> u8
+    requires { ⌜ i * 14 + 14 ≤ length (now table) ⌝ }
     ensures { λ r. ⌜ r ≡ offsetRefusal h (now (table .entry)) i ⌝ }
 {
-    let entry = part(table, of_cards(i, 14), 14);
-    let offset = number(part(entry, 10, 4));
+    let at = of_cards(i, 14);
+    let entry = &table[at..at + 14];
+    let offset = number(&entry[10..14]);
     unless(offset as usize == offset_of(h, i), 6)
 }
 
 // The refusal of the offsets of all cards; it ends at the first.
 fn offsets_refusal(table: &[u8], h: Front) -> u8
+    requires { ⌜ h .count * 14 ≤ length (now table) ⌝ }
     ensures { λ r. ⌜ r ≡ offsetsRefusal h (now (table .entry)) ⌝ }
 {
     let count = h.count;

@@ -33,14 +33,15 @@ pub fn is_label(bytes: &[u8]) -> bool
     if bytes.len() != 10 {
         return false;
     }
+    let mut good = true;
     let mut i = 0;
     while i < 9 {
         if !are_digits(bytes[i]) {
-            return false;
+            good = false;
         }
         i += 1;
     }
-    are_last(bytes[9])
+    if good { are_last(bytes[9]) } else { false }
 }
 
 // A byte as a number of two digits, the first of them the higher.

@@ -9,10 +9,10 @@ unfolding labelRefusal
 label-refusal-spec =
     tie.close
     (tie.spec
+    (λ c κs. c .before .pre)
     (λ c κs. search needs)
     (λ c κs. search needs)
+    (λ c κs. c .before .before .before .before .pre)
     (λ c κs. search needs)
     (λ c κs. search needs)
-    (λ c κs. search needs)
-    (λ c κs. search needs)
-    (λ c. simp (c .first .ensures, c .before .unless2 .ensures, c .before .before .is-above .ensures, c .before .before .before .unless .ensures, c .before .before .before .before .is-label .ensures, c .before .before .before .before .before .label-at .ensures)))
+    (λ c. simp (c .first .ensures, c .before .unless2 .ensures, c .before .before .is-above .ensures, c .before .before .before .unless .ensures, c .before .before .before .before .is-label .ensures, c .before .before .before .before .before .label-in .ensures)))
