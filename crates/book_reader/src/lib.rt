@@ -18,7 +18,7 @@ use slices::part;
 use system::are_sizes;
 ghost use mathlib.Core.Path.{_≡_};
 ghost use Prim.Native.Nat.{_+_, _*_, _≤_};
-ghost use lib.ListN.{length, take, drop};
+ghost use lib.ListN.{length};
 ghost use Rattle.book_form.specs.Book.{frontIn, tableIn, fieldsIn};
 ghost use Rattle.book_reader.specs.Reader.{offsetRefusal, offsetsRefusal, frontRefusal, bookRefusal, refusalOf, readingOf};
 

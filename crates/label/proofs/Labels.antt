@@ -5,7 +5,6 @@ use mathlib.Core.Bool.{Bool, true, false, false≢true, _&&_}
 use mathlib.Core.Logic.{_⊎_, inl, inr, ⊎-elim}
 use mathlib.Core.List.{List, [], _∷_}
 use native.Mathlib.Nat.{not-suc-le-zero, eq-or-lt-of-le, le-of-suc-le-suc, le-refl}
-use native.Mathlib.Numerals.{add-one}
 use native.Mathlib.Decide.{decLt, ℕ-discrete}
 use native.Mathlib.Omega.{arith}
 use lib.Dec.{leb, ltb, eqb}
@@ -245,16 +244,6 @@ pub not-ten : (l : List ℕ) → (length l ≡ 10 → ⊥) → false ≡ isLabel
 unfolding isLabel
 not-ten l differs = sym (simp (ne-eqb (length l) 10 differs))
 
-pub wrong-half : (l : List ℕ) (i : ℕ) → length l ≡ 10 → i < 9 → areDigits (l ! i) ≡ false → false ≡ isLabel l
-unfolding isLabel
-wrong-half l i ten below wrong = sym (simp (eq-eqb (length l) 10 ten, all-fails 9 i (λ k. areDigits (l ! k)) below wrong))
-
 pub last-decides : (l : List ℕ) → length l ≡ 10 → allOf 9 (λ k. areDigits (l ! k)) ≡ true → areLast (l ! 9) ≡ isLabel l
 unfolding isLabel
 last-decides l ten nine = sym (simp (eq-eqb (length l) 10 ten, nine))
-
-pub one-more : (l : List ℕ) (i next : ℕ) (t : Bool) → allOf i (λ k. areDigits (l ! k)) ≡ true → t ≡ areDigits (l ! i) → t ≡ true → next ≡ i + 1 →
-    allOf next (λ k. areDigits (l ! k)) ≡ true
-unfolding allOf
-one-more l i next t before is holds later =
-    ap (λ (k : ℕ). allOf k (λ j. areDigits (l ! j))) (later ∙ add-one i) ∙ and-both _ _ before (sym is ∙ holds)

@@ -3,12 +3,10 @@ use Prim.Native.Nat.{ℕ, _+_, _-_, _*_, _≤_, _<_}
 use native.Mathlib.Nat.{mul-le-mul, le-refl}
 use mathlib.Core.Path.{_≡_, refl, sym}
 use native.Mathlib.Omega.{arith}
-use borrow.Author.Needs.{needs}
 use Rattle.refusal.specs.Refusal.{firstOf}
 use Rattle.refusal.proofs.Refusals.{firstOf-zero}
 use Rattle.refusal.proofs.Chains.{none-so-far, first-here, none-at-end}
 use Rattle.book_form.specs.Labels.{labelRefusal, labelsRefusal}
-use borrow.Author.Needs.{needs}
 use Rattle.book_form.proofs.labels.labels_refusal.Statement.{statement}
 use Rattle.book_form.proofs.labels.labels_refusal.Tie as tie
 
