@@ -44,6 +44,7 @@ pub fn append_label(text: &mut [u8], at: usize, label: &[u8]) -> usize
 }
 
 // The half that a character stands for; 10, which is wrong in every place, for none.
+#[tactic(auto, unfolding(crate::specs::Iccid::halfOf))]
 fn half_of(character: u8) -> u8
     ensures { (result ≡ halfOf character) × (result < 16) }
 {

@@ -16,11 +16,14 @@ fn are_digits(byte: u8) -> bool
     byte / 16 <= 9
 }
 
+// The half that ends a label of nineteen digits.
+const F: u8 = 15;
+
 // The same of the last byte, whose high half may be F too.
 fn are_last(byte: u8) -> bool
     ensures { result ≡ areLast byte }
 {
-    if byte / 16 == 15 {
+    if byte / 16 == F {
         byte % 16 <= 9
     } else {
         are_digits(byte)

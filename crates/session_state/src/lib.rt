@@ -25,9 +25,12 @@ pub fn state_refusal(phase: u8, due: u8) -> u8
     }
 }
 
+// The most rounds that a count of one byte tells.
+const MOST: u8 = 255;
+
 // One round more.
 pub fn next_count(k: u8) -> u8
     ensures { result ≡ nextCount k }
 {
-    if k < 255 { k + 1 } else { 255 }
+    if k < MOST { k + 1 } else { MOST }
 }

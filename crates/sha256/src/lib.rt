@@ -78,6 +78,9 @@ pub fn hash(message: &[u8]) -> [u8; 32]
     out
 }
 
+// The bytes of a digest.
+const DIGEST_LENGTH: usize = 32;
+
 // Writes the digest of a message to out and returns 0; or returns 2 and leaves out as it was, where the message is longer than
 // 65,535 bytes or out is not 32 bytes long.
 pub fn digest(message: &[u8], out: &mut [u8]) -> u8
@@ -87,7 +90,7 @@ pub fn digest(message: &[u8], out: &mut [u8]) -> u8
     if message.len() > 65535 {
         return 2;
     }
-    if out.len() != 32 {
+    if out.len() != DIGEST_LENGTH {
         return 2;
     }
     let d = hash(message);

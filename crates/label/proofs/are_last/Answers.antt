@@ -4,12 +4,12 @@ use borrow.Author.Tests.{eq-eqb, ne_eqb}
 use Rattle.label.specs.Tests.{areLast}
 use Rattle.label.proofs.are_last.Goals as goal
 
-pub returns-then-byte-eq15 : goal.returns-then-byte-eq15
+pub returns-then-byte-eq-F : goal.returns-then-byte-eq-F
 unfolding areLast
-returns-then-byte-eq15 c =
-    simp (eq-eqb (c.args.byte / 16) 15 c.if-byte-eq15.true)
+returns-then-byte-eq-F c =
+    simp (eq-eqb (c.args.byte / 16) 15 c.if-byte-eq-F.true)
 
-pub returns-else-byte-eq15 : goal.returns-else-byte-eq15
+pub returns-else-byte-eq-F : goal.returns-else-byte-eq-F
 unfolding areLast
-returns-else-byte-eq15 c =
-    simp (ne_eqb (c.args.byte / 16) 15 c.if-byte-eq15.false, c.are_digits.ensures)
+returns-else-byte-eq-F c =
+    simp (ne_eqb (c.args.byte / 16) 15 c.if-byte-eq-F.false, c.are_digits.ensures)

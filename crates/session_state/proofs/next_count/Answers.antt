@@ -3,10 +3,10 @@ use native.Mathlib.Omega.{arith}
 use Rattle.session_state.specs.State.{nextCount}
 use Rattle.session_state.proofs.next_count.Goals as goal
 
-pub returns-then-k-lt255 : goal.returns-then-k-lt255
+pub returns-then-k-lt-MOST : goal.returns-then-k-lt-MOST
 unfolding nextCount
-returns-then-k-lt255 c = omega arith
+returns-then-k-lt-MOST c = omega arith
 
-pub returns-else-k-lt255 : goal.returns-else-k-lt255
+pub returns-else-k-lt-MOST : goal.returns-else-k-lt-MOST
 unfolding nextCount
-returns-else-k-lt255 c = omega arith
+returns-else-k-lt-MOST c = omega arith

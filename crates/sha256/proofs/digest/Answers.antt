@@ -15,16 +15,16 @@ returns-then-message-gt65535 c =
     let n = length c.args.message.now in
     simp (lt-leb n 65535 (omega arith)) (refl, refl)
 
-pub returns-then-out-ne32 : goal.returns-then-out-ne32
+pub returns-then-out-ne-DIGEST_LENGTH : goal.returns-then-out-ne-DIGEST_LENGTH
 unfolding digestRefusal unless ◌orElse◌ kept
-returns-then-out-ne32 c =
-    simp (le-leb (length c.args.message.now) 65535 (omega arith), ne_eqb (length c.args.out.now) 32 c.if-out-ne32.true) (refl, refl)
+returns-then-out-ne-DIGEST_LENGTH c =
+    simp (le-leb (length c.args.message.now) 65535 (omega arith), ne_eqb (length c.args.out.now) 32 c.if-out-ne-DIGEST_LENGTH.true) (refl, refl)
 
 pub returns : goal.returns
 unfolding digestRefusal unless ◌orElse◌ kept
 returns c =
     let d = c.hash-d.result in
-    let e = c.if-out-ne32.false in
+    let e = c.if-out-ne-DIGEST_LENGTH.false in
     let long : length d ≡ 32 = ap length c.hash-d.ensures ∙ length-sha256 _ in
     simp (le-leb _ _ c.if-message-gt65535.false, eq-eqb _ _ e)
     (refl, placed-whole _ d _ (long ∙ sym e) c.put.ensures ∙ c.hash-d.ensures)
