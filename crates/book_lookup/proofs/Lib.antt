@@ -2,3 +2,4 @@
 pub mod Search
 pub mod Examples
 pub mod Lookups
+pub mod Offsets

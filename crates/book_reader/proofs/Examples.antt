@@ -20,11 +20,11 @@ use Rattle.book_reader.proofs.WellFormed.{well-formed}
 unfoldable pub labelEnding : ℕ → ℕ → List ℕ
 labelEnding ninth tenth = 152 ∷ 68 ∷ 1 ∷ 0 ∷ 0 ∷ 0 ∷ 0 ∷ 0 ∷ ninth ∷ tenth ∷ []
 
--- q = 7, n = 2, m = 2; keys 03 01, 05 06 and 00 04
+-- q = 7, n = 3, m = 2; keys 03 01, 05 06 and 00 04; the first two labels end in 39 and in 3F
 unfoldable pub threeCards : List ℕ
 threeCards =
-    3 ∷ 0 ∷ 0 ∷ 0 ∷ 7 ∷ 2 ∷ 2 ∷
-    (labelEnding 16 50 ++ 49 ∷ 0 ∷ 0 ∷ 0 ∷
+    3 ∷ 0 ∷ 0 ∷ 0 ∷ 7 ∷ 3 ∷ 2 ∷
+    (labelEnding 16 147 ++ 49 ∷ 0 ∷ 0 ∷ 0 ∷
     (labelEnding 16 243 ++ 51 ∷ 0 ∷ 0 ∷ 0 ∷
     (labelEnding 32 0 ++ 53 ∷ 0 ∷ 0 ∷ 0 ∷ 3 ∷ 1 ∷ 5 ∷ 6 ∷ 0 ∷ 4 ∷ [])))
 
