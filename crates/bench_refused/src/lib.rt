@@ -16,6 +16,7 @@ use carrier_state::{Carrier, CarrierPhase, carrier_with, closed_carrier};
 use session_state::Verdict;
 
 // A card's phase by its number.
+#[tactic(auto, unfolding(crate::specs::Refused::cardPhase))]
 fn card_phase(number: u8) -> CardPhase
     ensures { result ≡ cardPhase number }
 {
@@ -42,6 +43,7 @@ fn card_in(phase: u8) -> Card
 }
 
 // A carrier's phase by its number.
+#[tactic(auto, unfolding(crate::specs::Refused::carrierPhase))]
 fn carrier_phase(number: u8) -> CarrierPhase
     ensures { result ≡ carrierPhase number }
 {
