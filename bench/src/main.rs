@@ -2,15 +2,17 @@
 //!
 //! Every side is run on the same inputs, and all answers are compared before anything is timed.
 //!
-//! usage: bench [--quick] [--times | --with FILE]
+//! usage: bench [--quick] [--times | --with FILE] [--code FILE]
 //! `--times` prints nothing but the times, a line for each task. `--with FILE` takes those of the other build, whose code lies
-//! 16 bytes further on, and prints the page with the better of both.
+//! 16 bytes further on, and prints the page with the better of both. `--code FILE` has what `objdump` says of the archive, for
+//! a section on it.
 
 mod engine;
 mod inputs;
 mod machine;
 mod plain;
 mod refused;
+mod registers;
 mod stack;
 mod stacks;
 mod table;
@@ -32,10 +34,11 @@ std::arch::global_asm!(
 fn main() {
     let words: Vec<String> = std::env::args().skip(1).collect();
     let has = |word: &str| words.iter().position(|other| other == word);
-    let log = match has("--with") {
-        Some(place) => {
-            Log::after(&std::fs::read_to_string(&words[place + 1]).expect("a file of times"))
-        }
+    let file = |word: &str| {
+        has(word).map(|place| std::fs::read_to_string(&words[place + 1]).expect("a file"))
+    };
+    let log = match file("--with") {
+        Some(times) => Log::after(&times),
         None => Log::default(),
     };
     let log = RefCell::new(log);
@@ -44,11 +47,12 @@ fn main() {
         None => (1500, 60),
     };
     let time = Duration::from_millis(time);
-    let page = page(Effort {
+    let effort = Effort {
         time,
         turns,
         log: &log,
-    });
+    };
+    let page = page(effort, file("--code"));
     match has("--times") {
         Some(_) => print!("{}", log.borrow().text()),
         None => print!("{page}"),
@@ -56,7 +60,7 @@ fn main() {
 }
 
 /// The whole page.
-fn page(effort: Effort) -> String {
+fn page(effort: Effort, code: Option<String>) -> String {
     let mut page = String::new();
     page += "# Performance\n\nMade by `bench/run --store`, which builds both sides twice and times both in one process for each build. Not edited by hand.\n\n";
     page += &machine::described();
@@ -75,5 +79,9 @@ fn page(effort: Effort) -> String {
     page += "\n## Stack use\n\n";
     page += stacks::MEASURED;
     page += &stacks::measured();
+    if let Some(code) = code {
+        page += "\n## Registers of 32 bits\n\n";
+        page += &registers::described(&code);
+    }
     page
 }

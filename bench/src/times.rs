@@ -24,7 +24,7 @@ Best of many, in microseconds; the sides take turns. Where a loop starts within 
 any change of the code moves that: each time is the better of two builds, the second with all code 16 bytes further on.
 
 - `same form` is Rust in the form of the engine. F and G: the monomials once for a vector, then for each polynomial a product of two
-  rows, in blocks of constant length. SHA-256: FIPS 180-4 as it stands, with no intrinsics. A record and an
+  rows, in sixteen running sums of 32 bits. SHA-256: FIPS 180-4 as it stands, with no intrinsics. A record and an
   audit: the same monomials, hashes and checks of every byte, with no memory from the heap, and compiled apart for each q. No side
   puts the system in another form first, as in packed bits. A key book: a pass over its offsets, one over its labels and one over
   its keys by a running maximum, with no memory from the heap, and for the lookup a search by halves, after the same checks.

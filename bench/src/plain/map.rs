@@ -134,23 +134,18 @@ fn parity(row: &[u8], monomials: &[u8]) -> u8 {
     both.fold(0, |bits, (a, x)| bits ^ (a & x)) & 1
 }
 
-/// A whole row is at most 4,752 × 250 × 250, which 32 bits hold. The counts are constants, so that a block is compiled into wide
-/// instructions; one sum over the whole row takes twice as long.
+/// Sixteen running sums, which are one at the end: they stay in wide registers. A whole row is at most 4,752 × 250 × 250, which
+/// 32 bits hold.
 fn sum_of_products(row: &[u8], monomials: &[u8]) -> u32 {
     let product = |a: u8, x: u8| u32::from(a) * u32::from(x);
-    let (blocks, rest) = row.as_chunks::<64>();
-    let (others, last) = monomials.as_chunks::<64>();
-    let mut total = 0;
+    let (blocks, rest) = row.as_chunks::<16>();
+    let (others, last) = monomials.as_chunks::<16>();
+    let mut sums = [0; 16];
     for (a, x) in blocks.iter().zip(others) {
-        let mut sum = 0;
-        for i in 0..32 {
-            sum += product(a[i], x[i]);
+        for (sum, (&a, &x)) in sums.iter_mut().zip(a.iter().zip(x)) {
+            *sum += product(a, x);
         }
-        for i in 32..64 {
-            sum += product(a[i], x[i]);
-        }
-        total += sum;
     }
     let rest: u32 = rest.iter().zip(last).map(|(&a, &x)| product(a, x)).sum();
-    total + rest
+    sums.iter().sum::<u32>() + rest
 }

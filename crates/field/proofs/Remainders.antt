@@ -2,7 +2,7 @@
 use Prim.Native.Nat.{ℕ, zero, suc, ◌+◌, ◌-◌, ◌*◌, ◌/◌, ◌%◌, ◌≤◌, ◌<◌, ◌∣◌}
 use mathlib.Core.Path.{◌≡◌, refl, sym, ap, ap₂, ◌∙◌}
 use mathlib.Core.Logic.{⊎_elim}
-use native.Mathlib.Nat.{add_assoc, add_comm, zero-add, add-mul, mul-add, mul_assoc, mul_comm, one-mul, mod-lt, mod_self, mod-eq_of_lt, mod-add-mod, add-mod-mod, mul-add-mod_self_left, div-add-mod, dvd_of_mod-eq-zero, pos_of_ne-zero}
+use native.Mathlib.Nat.{add_assoc, add_comm, zero-add, add-mul, mul-add, mul_assoc, mul_comm, one-mul, mod-lt, mod_self, mod-mod, add-mod, mod-eq_of_lt, mod-add-mod, add-mod-mod, mul-add-mod_self_left, div-add-mod, dvd_of_mod-eq-zero, pos_of_ne-zero}
 use native.Mathlib.Omega.{arith}
 use Rattle.field.specs.Ops.{Ops, remainders}
 use Rattle.field.specs.Field.{Ring, Inverse, Field}
@@ -19,6 +19,13 @@ mod-mul a b p = sym (ap (λ (k : ℕ). k % p) split ∙ mul-add-mod_self_left p 
 
 pub mul-mod : (a b p : ℕ) → a * (b % p) % p ≡ a * b % p
 mul-mod a b p = ap (λ (k : ℕ). k % p) (mul_comm a (b % p)) ∙ mod-mul b a p ∙ ap (λ (k : ℕ). k % p) (mul_comm b a)
+
+-- the remainder of a number from those of its two digits to the base b
+pub mod-digits : (t b p : ℕ) → (t / b % p * (b % p) + t % b % p) % p ≡ t % p
+mod-digits t b p =
+    add-mod (t / b % p * (b % p)) (t % b % p) p ∙
+    ap₂ (λ (u v : ℕ). (u + v) % p) (mod-mul (t / b) (b % p) p ∙ mul-mod (t / b) b p) (mod-mod (t % b) p) ∙
+    sym (add-mod (t / b * b) (t % b) p) ∙ ap (λ (k : ℕ). k % p) (ap (λ (k : ℕ). k + t % b) (mul_comm (t / b) b) ∙ div-add-mod t b)
 
 -- ---- differences
 

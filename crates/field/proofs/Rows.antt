@@ -59,9 +59,6 @@ pub products-step : (a b : List ℕ) (i t x y : ℕ) → t ≡ products a b i �
 unfolding products
 products-step a b i t x y et ex ey = rw (add-one, et, ex, ey)
 
-pub products-end : (a b : List ℕ) (i n t : ℕ) → t ≡ products a b i → i ≡ n → t ≡ products a b n
-products-end a b i n t e h = rw (← h) e
-
 products-part : (a b : List ℕ) (s e k : ℕ) → k ≤ e - s →
     products a b s + products (take (e - s) (drop s a)) (take (e - s) (drop s b)) k ≡ products a b (s + k)
 unfolding products

@@ -36,17 +36,15 @@ fn reduce(q: u8, x: u16) -> u8
     }
 }
 
-// The same of a longer sum.
+// The same of a sum of 32 bits, from its two halves, the high one counting 65,536: no product is wider than the sum, as the one is
+// that a division of 32 bits by a constant becomes.
 pub fn reduce_total(q: u8, total: u32) -> u8
     ensures { result ≡ total % modulus q }
 {
-    match q {
-        2 => (total % 2) as u8,
-        7 => (total % 7) as u8,
-        31 => (total % 31) as u8,
-        251 => (total % 251) as u8,
-        _ => 0,
-    }
+    let high = reduce(q, (total / 65536) as u16);
+    let low = reduce(q, (total % 65536) as u16);
+    let unit = reduce(q, reduce(q, 65535) as u16 + 1);
+    reduce(q, high as u16 * unit as u16 + low as u16)
 }
 
 pub fn add(q: u8, a: u8, b: u8) -> u8

@@ -1,15 +1,14 @@
 -- The last bit of a sum and of a product: of two numbers' differing bits, and of those that both have. Assumes nothing.
-use Prim.Native.Nat.{ℕ, zero, suc, ◌+◌, ◌-◌, ◌*◌, ◌%◌, ◌≤◌, ◌<◌, min}
+use Prim.Native.Nat.{ℕ, zero, suc, ◌+◌, ◌*◌, ◌%◌, ◌<◌, min}
 use mathlib.Core.Path.{◌≡◌, refl, sym, ap, ap₂, ◌∙◌}
 use mathlib.Core.List.{List}
-use native.Mathlib.Nat.{add-mod, mod-mod}
+use native.Mathlib.Nat.{add-mod}
 use native.Mathlib.Omega.{arith}
 use lib.Bits.{bit_and, bit_xor, and_step, xor_add_and}
-use lib.ListN.{length, take, drop}
 use Rattle.slices.specs.Slices.{◌!◌}
 use Rattle.field.specs.Row.{products}
 use Rattle.field.proofs.Remainders.{mod-mul, mul-mod}
-use Rattle.field.proofs.Rows.{products-step, products-block}
+use Rattle.field.proofs.Rows.{products-step}
 
 xor-parity : (a b : ℕ) → bit_xor a b % 2 ≡ (a + b) % 2
 xor-parity a b = let both = xor_add_and a b in omega (arith, both)
@@ -33,11 +32,3 @@ pub parity-step : (a b : List ℕ) (i t x y : ℕ) → t % 2 ≡ products a b i 
 parity-step a b i t x y et ex ey =
     xor-parity t (bit_and x y) ∙ add-mod t (bit_and x y) 2 ∙ ap₂ (λ (u v : ℕ). (u + v) % 2) et (and-parity x y) ∙ sym (add-mod (products a b i) (x * y) 2) ∙
     ap (λ (k : ℕ). k % 2) (products-step a b i (products a b i) x y refl ex ey)
-
--- a block's last bit is what it adds to the whole
-pub parity-block : (a b : List ℕ) (s e t r : ℕ) → t % 2 ≡ products a b s % 2 → s ≤ e → e ≤ length a →
-    r ≡ products (take (e - s) (drop s a)) (take (e - s) (drop s b)) (length (take (e - s) (drop s a))) % 2 → (t + r) % 2 ≡ products a b e % 2
-parity-block a b s e t r et h k er =
-    let block = products (take (e - s) (drop s a)) (take (e - s) (drop s b)) (length (take (e - s) (drop s a))) in
-    add-mod t r 2 ∙ ap₂ (λ (u v : ℕ). (u + v) % 2) et (ap (λ (u : ℕ). u % 2) er ∙ mod-mod block 2) ∙ sym (add-mod (products a b s) block 2) ∙
-    ap (λ (u : ℕ). u % 2) (products-block a b s e (products a b s) block refl h k refl)

@@ -6,6 +6,7 @@
 
 mod combination;
 mod products;
+mod sums;
 
 pub use combination::combine;
 pub use products::dot;

@@ -1,30 +1,13 @@
--- Each arm divides by the modulus of its q; in the last the modulus is 1. Assumes nothing.
-use native.Mathlib.Omega.{arith}
-use Rattle.field.specs.Ops.{isField, modulus}
-use Rattle.field.proofs.Modulus.{other-remainder, not-field}
+-- The remainder of a number of two digits to the base 65,536. Assumes nothing.
+use Prim.Native.Nat.{ℕ, ◌+◌, ◌*◌, ◌%◌}
+use mathlib.Core.Path.{◌≡◌, ap, ap₂, ◌∙◌}
+use native.Mathlib.Nat.{mod-add-mod}
+use Rattle.field.specs.Ops.{modulus}
+use Rattle.field.proofs.Remainders.{mod-digits}
 use Rattle.field.proofs.scalar.reduce_total.Goals as goal
 
-pub returns-in-2 : goal.returns-in-2
-unfolding isField modulus
-returns-in-2 c =
-    rw c.in-2.is
-
-pub returns-in-7 : goal.returns-in-7
-unfolding isField modulus
-returns-in-7 c =
-    rw c.in-7.is
-
-pub returns-in-31 : goal.returns-in-31
-unfolding isField modulus
-returns-in-31 c =
-    rw c.in-31.is
-
-pub returns-in-251 : goal.returns-in-251
-unfolding isField modulus
-returns-in-251 c =
-    rw c.in-251.is
-
-pub returns-in_default : goal.returns-in_default
-unfolding isField modulus
-returns-in_default c =
-    other-remainder c.args.q _ (not-field c.args.q (omega arith) (omega arith) (omega arith) (omega arith))
+pub returns : goal.returns
+returns c =
+    let p = modulus c.args.q in
+    let unit : c.reduce-unit.result ≡ 65536 % p = c.reduce-unit.ensures ∙ ap (λ (k : ℕ). (k + 1) % p) c.reduce.ensures ∙ mod-add-mod 65535 p 1 in
+    c.reduce-2.ensures ∙ ap₂ (λ (u v : ℕ). (u + v) % p) (ap₂ (λ (u v : ℕ). u * v) c.reduce-high.ensures unit) c.reduce-low.ensures ∙ mod-digits c.args.total 65536 p

@@ -2,6 +2,7 @@
 use Prim.Native.Nat.{ℕ, ◌%◌}
 use mathlib.Core.Path.{ap, ◌∙◌}
 use lib.ListN.{length}
+use Rattle.field.specs.Ops.{modulus}
 use Rattle.field.specs.Row.{products}
 use Rattle.field.proofs.Modulus.{modulus-two}
 use Rattle.field.proofs.Rows.{products-sum}
@@ -14,4 +15,4 @@ returns-then-q-eq2 c =
 
 pub returns-else-q-eq2 : goal.returns-else-q-eq2
 returns-else-q-eq2 c =
-    c.remainder.ensures ∙ products-sum c.args.q _ _ _
+    c.reduce_total.ensures ∙ ap (λ (t : ℕ). t % modulus c.args.q) c.sum_of_products.ensures ∙ products-sum c.args.q _ _ _

@@ -1,12 +1,12 @@
--- The loop's invariant: the running sum has the last bit of the sum of the products before `at`. Assumes nothing.
+-- The loop's invariant: what is held has the last bit of the sum of the first i products. Assumes nothing.
 use Prim.Native.Nat.{◌≤◌, ◌-◌, ◌%◌}
 use mathlib.Core.Path.{◌≡◌}
 use lib.ListN.{length}
 use Rattle.field.specs.Row.{products}
 use Rattle.rows.proofs.products.parity.Given as goal
 
-abbrev pub invariant-loop-at : goal.invariant-loop-at
-invariant-loop-at l = (l.at ≤ length l.a) × (l.total ≤ l.at) × (l.total % 2 ≡ products l.a l.b l.at % 2)
+abbrev pub invariant-loop-i : goal.invariant-loop-i
+invariant-loop-i l = (l.i ≤ length l.a) × (l.bits % 2 ≡ products l.a l.b l.i % 2)
 
-abbrev pub decreases-loop-at : goal.decreases-loop-at
-decreases-loop-at l = length l.a - l.at
+abbrev pub decreases-loop-i : goal.decreases-loop-i
+decreases-loop-i l = length l.a - l.i
