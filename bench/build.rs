@@ -8,7 +8,10 @@ const ARCHIVES: [&str; 2] = ["bench_entries", "bench_refused"];
 fn main() {
     let package = std::env::var("CARGO_MANIFEST_DIR").expect("cargo says where the package is");
     for archive in ARCHIVES {
-        let archives = Path::new(&package).join("../crates").join(archive).join("out");
+        let archives = Path::new(&package)
+            .join("../crates")
+            .join(archive)
+            .join("out");
         println!("cargo:rustc-link-search=native={}", archives.display());
         println!("cargo:rustc-link-lib=static={archive}");
         let file = archives.join(format!("lib{archive}.a"));

@@ -1,6 +1,7 @@
 //! What F and G are compiled into: the width of every instruction that multiplies or adds, read off the archive.
 
 use crate::table::Table;
+use std::cmp::Reverse;
 
 /// The functions of the archive that F and G are made of. The sums of `rows` are put inline in the first.
 const PARTS: [&str; 3] = [
@@ -13,7 +14,7 @@ const TOLD: &str = "\
 A card's registers have 32 bits. What F and G multiply and add is not wider: counted here are the instructions of the archive's functions
 that F and G are made of, as `objdump` prints them. The first forms the sums, which are those of `rows` put inline, and their
 remainders; the others form the monomials. Packed instructions count by their lanes. In 64-bit registers stand addresses, lengths and
-places alone: below is every instruction that adds or takes away in one where the sums are formed, and the loop that forms them.
+places alone: below is every instruction that adds or takes away in one where the sums are formed, and the first loop that forms them.
 
 ";
 
@@ -122,7 +123,7 @@ fn adds_wide(instruction: &Instruction) -> bool {
     adds && writes_wide(instruction)
 }
 
-/// The loop with the most multiplies, none other inside it.
+/// The loop with the most multiplies, none other inside it; of several the first.
 fn longest_loop(body: &[Instruction]) -> &[Instruction] {
     let loops = body.iter().enumerate().filter_map(|(end, jump)| {
         let target = jump.operands.split(' ').next()?;
@@ -131,7 +132,8 @@ fn longest_loop(body: &[Instruction]) -> &[Instruction] {
         (jump.name.starts_with('j') && start < end).then(|| &body[start..=end])
     });
     let inner = loops.filter(|turn| turn.iter().filter(|i| i.name.starts_with('j')).count() == 1);
-    let most = inner.max_by_key(|turn| turn.iter().filter(|i| i.name == "pmaddwd").count());
+    let most =
+        inner.min_by_key(|turn| Reverse(turn.iter().filter(|i| i.name == "pmaddwd").count()));
     most.expect("a loop")
 }
 

@@ -36,8 +36,8 @@ fn reduce(q: u8, x: u16) -> u8
     }
 }
 
-// The same of a sum of 32 bits, from its two halves, the high one counting 65,536: no product is wider than the sum, as the one is
-// that a division of 32 bits by a constant becomes.
+// The same of a sum of 32 bits, from its two halves, of which the high one counts 65,536. One division of 32 bits by a constant
+// would be compiled into a product of 64.
 pub fn reduce_total(q: u8, total: u32) -> u8
     ensures { result ≡ total % modulus q }
 {

@@ -1,8 +1,8 @@
 // The sum of the products of two rows, in whole numbers of 32 bits.
 //
-// A row's products go to sixteen running sums in turn, which are one sum at the row's end: they stay in wide registers all
-// the way, where one running sum would have to be formed out of them for every block. Nothing is reduced on the way: 65,536
-// products of two bytes are below 2^32, and no caller's row has more than 4,752 places.
+// A row's products go to sixteen running sums in turn, which become one at the row's end: they stay in wide registers all the
+// way, where a single sum would be formed out of those for every block. Nothing is reduced on the way: 65,536 products of two
+// bytes are below 2^32, and no caller's row has more than 4,752 places.
 ghost use Rattle.std.specs.Prelude.{◌≡◌, ◌+◌, ◌*◌, ◌^◌, ◌≤◌, ◌<◌, length, sum};
 ghost use Rattle.field.specs.Row.{products};
 
@@ -24,6 +24,7 @@ fn add_products<'a>(sums: &mut [u32], a: &'a [u8], b: &'a [u8])
     }
 }
 
+// The sixteen sums as one.
 fn total(sums: [u32; 16]) -> u32
     requires { sum sums < 2 ^ 32 }
     ensures { result ≡ sum sums }
