@@ -10,39 +10,39 @@ use Rattle.commitment.specs.Texts.{content}
 use Rattle.auditing.specs.declared.Finding.{Finding}
 use Rattle.auditing.specs.declared.Finding.TheVariants.{Secret, Clash, Refused}
 use Rattle.auditing.specs.declared.Audited.{Audited}
-use Rattle.auditing.specs.Outcome.{outcomeBy, outcomeOf}
-use Rattle.audit_lines.specs.AuditLines.{secretWord, hexLine, clashLines, refusalLine, auditText}
+use Rattle.auditing.specs.Outcome.{outcome_by, outcome_of}
+use Rattle.audit_lines.specs.AuditLines.{secret_word, hex_line, clash_lines, refusal_line, audit_text}
 
 -- r is l with s at its front, and s is so long
 abbrev pub Front : List ℕ → List ℕ → ℕ → List ℕ → Type 0
 Front l r long s = (r ≡ placed l 0 s) × (long ≡ length s) × (long ≤ 2048)
 
-pub at-front : (l r s : List ℕ) (next : ℕ) → Appended l r 0 next s → next ≤ 2048 → Front l r next s
-at-front l r s next (text, long) room = (text, omega (arith, long), room)
+pub at_front : (l r s : List ℕ) (next : ℕ) → Appended l r 0 next s → next ≤ 2048 → Front l r next s
+at_front l r s next (text, long) room = (text, omega (arith, long), room)
 
 -- the same text by another name
-pub front-by : (l r s t : List ℕ) (long : ℕ) → Front l r long s → s ≡ t → Front l r long t
-front-by l r s t long (text, size, room) e = (text ∙ ap (placed l 0) e, size ∙ ap (length {A = ℕ}) e, room)
+pub front_by : (l r s t : List ℕ) (long : ℕ) → Front l r long s → s ≡ t → Front l r long t
+front_by l r s t long (text, size, room) e = (text ∙ ap (placed l 0) e, size ∙ ap (length {A = ℕ}) e, room)
 
 -- what there is of a part is no longer than the whole
-pub part-short : (l p : List ℕ) (k most : ℕ) → p ≡ take k (drop 0 l) → length l ≡ most → length p ≤ most
-part-short l p k most is long = rw (is, length-take k (drop 0 l)) (omega (arith, long))
+pub part_short : (l p : List ℕ) (k most : ℕ) → p ≡ take k (drop 0 l) → length l ≡ most → length p ≤ most
+part_short l p k most is long = rw (is, length-take k (drop 0 l)) (omega (arith, long))
 
 -- ---- the text by the finding's cases
 
-by-finding : (r : Audited) (n : ℕ) (f : Finding) → r.finding ≡ f → auditText n (outcomeBy f r) ≡ auditText n (outcomeOf r)
-unfolding outcomeOf
-by-finding r n f e = ap (λ (g : Finding). auditText n (outcomeBy g r)) (sym e)
+by_finding : (r : Audited) (n : ℕ) (f : Finding) → r.finding ≡ f → audit_text n (outcome_by f r) ≡ audit_text n (outcome_of r)
+unfolding outcome_of
+by_finding r n f e = ap (λ (g : Finding). audit_text n (outcome_by g r)) (sym e)
 
-pub secret-text : (r : Audited) (n : ℕ) → r.finding ≡ Secret → hexLine secretWord (take n r.secret) ≡ auditText n (outcomeOf r)
-unfolding outcomeBy auditText
-secret-text r n e = by-finding r n Secret e
+pub secret_text : (r : Audited) (n : ℕ) → r.finding ≡ Secret → hex_line secret_word (take n r.secret) ≡ audit_text n (outcome_of r)
+unfolding outcome_by audit_text
+secret_text r n e = by_finding r n Secret e
 
-pub clash-text : (r : Audited) (n k : ℕ) → r.finding ≡ Clash k →
-    clashLines k (content r.first) (content r.second) ≡ auditText n (outcomeOf r)
-unfolding outcomeBy auditText
-clash-text r n k e = by-finding r n (Clash k) e
+pub clash_text : (r : Audited) (n k : ℕ) → r.finding ≡ Clash k →
+    clash_lines k (content r.first) (content r.second) ≡ audit_text n (outcome_of r)
+unfolding outcome_by audit_text
+clash_text r n k e = by_finding r n (Clash k) e
 
-pub refused-text : (r : Audited) (n number whose round : ℕ) → r.finding ≡ Refused number whose round → refusalLine number whose round ≡ auditText n (outcomeOf r)
-unfolding outcomeBy auditText
-refused-text r n number whose round e = by-finding r n (Refused number whose round) e
+pub refused_text : (r : Audited) (n number whose round : ℕ) → r.finding ≡ Refused number whose round → refusal_line number whose round ≡ audit_text n (outcome_of r)
+unfolding outcome_by audit_text
+refused_text r n number whose round e = by_finding r n (Refused number whose round) e

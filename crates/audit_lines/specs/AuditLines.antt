@@ -1,66 +1,66 @@
 -- What the audit program prints, as bytes, ASCII codes. Document 01 leaves this text open.
 use Rattle.std.specs.Prelude.{ℕ, cond, List, [], ◌∷◌, ◌++◌, eqb, take}
 use Rattle.hex_text.specs.Hex.{hex}
-use Rattle.text.specs.Text.{numbered, lineFeed}
-use Rattle.report_lines.specs.ReportLines.{roundWord, refusedLine}
-use Rattle.system.specs.System.{nOf}
+use Rattle.text.specs.Text.{numbered, line_feed}
+use Rattle.report_lines.specs.ReportLines.{round_word, refused_line}
+use Rattle.system.specs.System.{n_of}
 use Rattle.auditing.specs.Outcome.{Outcome, secret, clash, refused}
-use Rattle.auditing.specs.Audit.{auditThree, auditFive}
+use Rattle.auditing.specs.Audit.{audit_three, audit_five}
 
 -- ---- words
 
 -- "secret "
-unfoldable pub secretWord : List ℕ
-secretWord = 115 ∷ 101 ∷ 99 ∷ 114 ∷ 101 ∷ 116 ∷ 32 ∷ []
+unfoldable pub secret_word : List ℕ
+secret_word = 115 ∷ 101 ∷ 99 ∷ 114 ∷ 101 ∷ 116 ∷ 32 ∷ []
 
 -- "clash "
-unfoldable pub clashWord : List ℕ
-clashWord = 99 ∷ 108 ∷ 97 ∷ 115 ∷ 104 ∷ 32 ∷ []
+unfoldable pub clash_word : List ℕ
+clash_word = 99 ∷ 108 ∷ 97 ∷ 115 ∷ 104 ∷ 32 ∷ []
 
 -- "first "
-unfoldable pub firstWord : List ℕ
-firstWord = 102 ∷ 105 ∷ 114 ∷ 115 ∷ 116 ∷ 32 ∷ []
+unfoldable pub first_word : List ℕ
+first_word = 102 ∷ 105 ∷ 114 ∷ 115 ∷ 116 ∷ 32 ∷ []
 
 -- "second "
-unfoldable pub secondWord : List ℕ
-secondWord = 115 ∷ 101 ∷ 99 ∷ 111 ∷ 110 ∷ 100 ∷ 32 ∷ []
+unfoldable pub second_word : List ℕ
+second_word = 115 ∷ 101 ∷ 99 ∷ 111 ∷ 110 ∷ 100 ∷ 32 ∷ []
 
 -- "refused 8 record "
-unfoldable pub rejectedWord : List ℕ
-rejectedWord = 114 ∷ 101 ∷ 102 ∷ 117 ∷ 115 ∷ 101 ∷ 100 ∷ 32 ∷ 56 ∷ 32 ∷ 114 ∷ 101 ∷ 99 ∷ 111 ∷ 114 ∷ 100 ∷ 32 ∷ []
+unfoldable pub rejected_word : List ℕ
+rejected_word = 114 ∷ 101 ∷ 102 ∷ 117 ∷ 115 ∷ 101 ∷ 100 ∷ 32 ∷ 56 ∷ 32 ∷ 114 ∷ 101 ∷ 99 ∷ 111 ∷ 114 ∷ 100 ∷ 32 ∷ []
 
 -- " round "
-unfoldable pub inRoundWord : List ℕ
-inRoundWord = 32 ∷ roundWord
+unfoldable pub in_round_word : List ℕ
+in_round_word = 32 ∷ round_word
 
 -- ---- lines
 
 -- a word, then bytes in hexadecimal digits
-unfoldable pub hexLine : List ℕ → List ℕ → List ℕ
-hexLine word s = word ++ hex s ++ lineFeed
+unfoldable pub hex_line : List ℕ → List ℕ → List ℕ
+hex_line word s = word ++ hex s ++ line_feed
 
 -- `clash 1`, then both strings on a line each
-unfoldable pub clashLines : ℕ → List ℕ → List ℕ → List ℕ
-clashLines k x y = (numbered clashWord k ++ lineFeed) ++ hexLine firstWord x ++ hexLine secondWord y
+unfoldable pub clash_lines : ℕ → List ℕ → List ℕ → List ℕ
+clash_lines k x y = (numbered clash_word k ++ line_feed) ++ hex_line first_word x ++ hex_line second_word y
 
 -- `refused 8 record 2 round 1`
-unfoldable pub rejectedLine : ℕ → ℕ → List ℕ
-rejectedLine whose round = (numbered rejectedWord whose ++ numbered inRoundWord round) ++ lineFeed
+unfoldable pub rejected_line : ℕ → ℕ → List ℕ
+rejected_line whose round = (numbered rejected_word whose ++ numbered in_round_word round) ++ line_feed
 
 -- a record and a round are given with 8 alone
-unfoldable pub refusalLine : ℕ → ℕ → ℕ → List ℕ
-refusalLine number whose round = cond (eqb number 8) (rejectedLine whose round) (refusedLine number)
+unfoldable pub refusal_line : ℕ → ℕ → ℕ → List ℕ
+refusal_line number whose round = cond (eqb number 8) (rejected_line whose round) (refused_line number)
 
 -- the text of an audit whose secrets have n elements
-unfoldable pub auditText : ℕ → Outcome → List ℕ
-auditText n (secret s) = hexLine secretWord (take n s)
-auditText n (clash k x y) = clashLines k x y
-auditText n (refused number whose round) = refusalLine number whose round
+unfoldable pub audit_text : ℕ → Outcome → List ℕ
+audit_text n (secret s) = hex_line secret_word (take n s)
+audit_text n (clash k x y) = clash_lines k x y
+audit_text n (refused number whose round) = refusal_line number whose round
 
 -- the text of an audit of scheme 3
-unfoldable pub threeText : List ℕ → List ℕ → List ℕ → List ℕ → List ℕ
-threeText system a b c = auditText (nOf system) (auditThree system a b c)
+unfoldable pub three_text : List ℕ → List ℕ → List ℕ → List ℕ → List ℕ
+three_text system a b c = audit_text (n_of system) (audit_three system a b c)
 
 -- of scheme 5
-unfoldable pub fiveText : List ℕ → List ℕ → List ℕ → List ℕ → List ℕ → List ℕ
-fiveText system a b c d = auditText (nOf system) (auditFive system a b c d)
+unfoldable pub five_text : List ℕ → List ℕ → List ℕ → List ℕ → List ℕ → List ℕ
+five_text system a b c d = audit_text (n_of system) (audit_five system a b c d)

@@ -7,8 +7,8 @@ ghost use Rattle.std.specs.Prelude.{◌≡◌, ◌+◌, ◌*◌, ◌≤◌, leng
 ghost use Rattle.slices.specs.Slices.{placed};
 ghost use Rattle.commitment.specs.Commitment.{longest};
 ghost use Rattle.commitment.specs.Texts.{content};
-ghost use Rattle.auditing.specs.Outcome.{outcomeOf};
-ghost use Rattle.audit_lines.specs.AuditLines.{hexLine, clashLines, rejectedLine, refusalLine, auditText, threeText, fiveText};
+ghost use Rattle.auditing.specs.Outcome.{outcome_of};
+ghost use Rattle.audit_lines.specs.AuditLines.{hex_line, clash_lines, rejected_line, refusal_line, audit_text, three_text, five_text};
 
 use auditing::{Audited, Finding, audit_five, audit_three};
 use commitment::Text;
@@ -20,8 +20,8 @@ use text::{append, append_number, append_numbers};
 // Puts a line of a word and bytes.
 fn hex_line(text: &mut [u8], at: usize, word: &[u8], s: &[u8]) -> usize
     requires { at + length word.now + 2 * length s.now + 1 ≤ length text.old }
-    ensures { (text.new ≡ placed text.old «at» (hexLine word.now s.now))
-        × (result ≡ at + length (hexLine word.now s.now)) × (result ≡ at + length word.now + 2 * length s.now + 1) }
+    ensures { (text.new ≡ placed text.old «at» (hex_line word.now s.now))
+        × (result ≡ at + length (hex_line word.now s.now)) × (result ≡ at + length word.now + 2 * length s.now + 1) }
 {
     let next = append(text, at, word);
     let next = append_hex(text, next, s);
@@ -31,8 +31,8 @@ fn hex_line(text: &mut [u8], at: usize, word: &[u8], s: &[u8]) -> usize
 // `clash 1`, then a line for each string.
 fn clash_lines(text: &mut [u8], k: u8, first: &[u8], second: &[u8]) -> usize
     requires { (length text.old ≡ 2048) × (length first.now ≤ longest) × (length second.now ≤ longest) }
-    ensures { (text.new ≡ placed text.old 0 (clashLines k first.now second.now))
-        × (result ≡ length (clashLines k first.now second.now)) × (result ≤ 2048) }
+    ensures { (text.new ≡ placed text.old 0 (clash_lines k first.now second.now))
+        × (result ≡ length (clash_lines k first.now second.now)) × (result ≤ 2048) }
 {
     let next = append_number(text, 0, b"clash ", k);
     let next = append(text, next, b"\n");
@@ -43,7 +43,7 @@ fn clash_lines(text: &mut [u8], k: u8, first: &[u8], second: &[u8]) -> usize
 // `refused 8 record 2 round 1`
 fn rejected_line(text: &mut [u8], whose: u8, round: u8) -> usize
     requires { length text.old ≡ 2048 }
-    ensures { (text.new ≡ placed text.old 0 (rejectedLine whose round)) × (result ≡ length (rejectedLine whose round)) × (result ≤ 2048) }
+    ensures { (text.new ≡ placed text.old 0 (rejected_line whose round)) × (result ≡ length (rejected_line whose round)) × (result ≤ 2048) }
 {
     let next = append_numbers(text, 0, b"refused 8 record ", whose, b" round ", round);
     append(text, next, b"\n")
@@ -52,7 +52,7 @@ fn rejected_line(text: &mut [u8], whose: u8, round: u8) -> usize
 // The line of a refusal.
 fn refusal_line(text: &mut [u8], number: u8, whose: u8, round: u8) -> usize
     requires { length text.old ≡ 2048 }
-    ensures { (text.new ≡ placed text.old 0 (refusalLine number whose round)) × (result ≡ length (refusalLine number whose round))
+    ensures { (text.new ≡ placed text.old 0 (refusal_line number whose round)) × (result ≡ length (refusal_line number whose round))
         × (result ≤ 2048) }
 {
     if number == 8 {
@@ -65,7 +65,7 @@ fn refusal_line(text: &mut [u8], number: u8, whose: u8, round: u8) -> usize
 // The text of what an audit answers, where the system's n is given.
 pub fn audit_text(audited: Audited, n: u8, text: &mut [u8]) -> usize
     requires { length text.old ≡ 2048 }
-    ensures { (text.new ≡ placed text.old 0 (auditText n (outcomeOf audited))) × (result ≡ length (auditText n (outcomeOf audited)))
+    ensures { (text.new ≡ placed text.old 0 (audit_text n (outcome_of audited))) × (result ≡ length (audit_text n (outcome_of audited)))
         × (result ≤ 2048) }
 {
     let finding = audited.finding;
@@ -82,8 +82,8 @@ pub fn audit_text(audited: Audited, n: u8, text: &mut [u8]) -> usize
 // The lines of a clash, each string as long as it says.
 fn both_strings(text: &mut [u8], k: u8, first: Text, second: Text) -> usize
     requires { length text.old ≡ 2048 }
-    ensures { (text.new ≡ placed text.old 0 (clashLines k (content first) (content second)))
-        × (result ≡ length (clashLines k (content first) (content second))) × (result ≤ 2048) }
+    ensures { (text.new ≡ placed text.old 0 (clash_lines k (content first) (content second)))
+        × (result ≡ length (clash_lines k (content first) (content second))) × (result ≤ 2048) }
 {
     let first_length = first.len;
     let first_bytes = first.bytes;
@@ -117,8 +117,8 @@ pub fn three_text<'a>(
     text: &mut [u8; 2048],
 ) -> usize
     ensures { (text.new ≡ placed text.old 0
-        (threeText (take lengths.system system.now) (take lengths.a a.now) (take lengths.b b.now)
-        (take lengths.c c.now))) × (result ≡ length (threeText (take lengths.system system.now) (take lengths.a a.now)
+        (three_text (take lengths.system system.now) (take lengths.a a.now) (take lengths.b b.now)
+        (take lengths.c c.now))) × (result ≡ length (three_text (take lengths.system system.now) (take lengths.a a.now)
         (take lengths.b b.now) (take lengths.c c.now))) }
 {
     let system = part(system, 0, lengths.system);
@@ -140,9 +140,9 @@ pub fn five_text<'a>(
     text: &mut [u8; 2048],
 ) -> usize
     ensures { (text.new ≡ placed text.old 0
-        (fiveText (take lengths.system system.now) (take lengths.a a.now) (take lengths.b b.now)
+        (five_text (take lengths.system system.now) (take lengths.a a.now) (take lengths.b b.now)
         (take lengths.c c.now) (take d_length d.now)))
-        × (result ≡ length (fiveText (take lengths.system system.now) (take lengths.a a.now) (take lengths.b b.now)
+        × (result ≡ length (five_text (take lengths.system system.now) (take lengths.a a.now) (take lengths.b b.now)
         (take lengths.c c.now) (take d_length d.now))) }
 {
     let system = part(system, 0, lengths.system);

@@ -18,21 +18,21 @@ unfoldable pub clashed : ℕ → Text → Text → Audited
 clashed k x y = record { finding = Clash k; secret = zeros 96; first = x; second = y }
 
 -- "both strings empty"; "On a refusal the secret and both strings are zero, with lengths 0."
-unfoldable pub answerOf : Outcome → Audited
-answerOf (secret s) = record { finding = Secret; secret = s; first = text []; second = text [] }
-answerOf (clash k x y) = clashed k (text x) (text y)
-answerOf (refused number whose round) = record { finding = Refused number whose round; secret = zeros 96; first = text []; second = text [] }
+unfoldable pub answer_of : Outcome → Audited
+answer_of (secret s) = record { finding = Secret; secret = s; first = text []; second = text [] }
+answer_of (clash k x y) = clashed k (text x) (text y)
+answer_of (refused number whose round) = record { finding = Refused number whose round; secret = zeros 96; first = text []; second = text [] }
 
 -- this document's number and values for each of the finding's cases
-unfoldable pub outcomeBy : Finding → Audited → Outcome
-outcomeBy Secret r = secret r.secret
-outcomeBy (Clash k) r = clash k (content r.first) (content r.second)
-outcomeBy (Refused number whose round) r = refused number whose round
+unfoldable pub outcome_by : Finding → Audited → Outcome
+outcome_by Secret r = secret r.secret
+outcome_by (Clash k) r = clash k (content r.first) (content r.second)
+outcome_by (Refused number whose round) r = refused number whose round
 
-unfoldable pub outcomeOf : Audited → Outcome
-outcomeOf r = outcomeBy r.finding r
+unfoldable pub outcome_of : Audited → Outcome
+outcome_of r = outcome_by r.finding r
 
 -- the code's answer is that of the outcome, and its values are the outcome's
 pub record Answers (r : Audited) (o : Outcome) : Type 0 where
-  pub is : r ≡ answerOf o
-  pub says : outcomeOf r ≡ o
+  pub is : r ≡ answer_of o
+  pub says : outcome_of r ≡ o

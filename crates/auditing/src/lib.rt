@@ -5,9 +5,9 @@
 #![tactic(auto)]
 
 ghost use Rattle.std.specs.Prelude.{◌≡◌};
-ghost use Rattle.system.specs.System.{systemRefusal};
+ghost use Rattle.system.specs.System.{system_refusal};
 ghost use Rattle.auditing.specs.Outcome.{refused as Outcome·refused, clashed as Outcome·clashed, Answers};
-ghost use Rattle.auditing.specs.Audit.{clashAt, secretIn, secretAt, searchOf, auditOf, auditThree, auditFive};
+ghost use Rattle.auditing.specs.Audit.{clash_at, secret_in, secret_at, search_of, audit_of, audit_three, audit_five};
 
 use clash::{first_clash, opened_pair};
 use commitment::{Text, empty};
@@ -55,7 +55,7 @@ fn secret_in<'a>(
     c: &'a [u8],
     r: u8,
 ) -> [u8; 96]
-    ensures { result ≡ secretIn scheme system.now a.now b.now c.now r }
+    ensures { result ≡ secret_in scheme system.now a.now b.now c.now r }
 {
     match scheme {
         Scheme::ThreePass => {
@@ -76,7 +76,7 @@ fn secret_at<'a>(
     c: &'a [u8],
     r: u8,
 ) -> Audited
-    ensures { Answers result (secretAt scheme system.now a.now b.now c.now r) }
+    ensures { Answers result (secret_at scheme system.now a.now b.now c.now r) }
 {
     Audited {
         finding: Finding::Secret,
@@ -109,8 +109,8 @@ fn clash_at<'a>(
     r: u8,
     k: u8,
 ) -> Audited
-    requires { systemRefusal system.now ≡ 0 }
-    ensures { Answers result (clashAt scheme system.now a.now b.now c.now d.now r k) }
+    requires { system_refusal system.now ≡ 0 }
+    ensures { Answers result (clash_at scheme system.now a.now b.now c.now d.now r k) }
 {
     let pair = opened_pair(scheme, system, a, b, c, d, r, k);
     let left = pair.left;
@@ -127,8 +127,8 @@ fn search<'a>(
     c: &'a [u8],
     d: &'a [u8],
 ) -> Audited
-    requires { systemRefusal system.now ≡ 0 }
-    ensures { Answers result (searchOf scheme system.now a.now b.now c.now d.now) }
+    requires { system_refusal system.now ≡ 0 }
+    ensures { Answers result (search_of scheme system.now a.now b.now c.now d.now) }
 {
     let round = first_full(scheme, a, b, c, d);
     if round == 0 {
@@ -151,7 +151,7 @@ fn audit<'a>(
     c: &'a [u8],
     d: &'a [u8],
 ) -> Audited
-    ensures { Answers result (auditOf scheme system.now a.now b.now c.now d.now) }
+    ensures { Answers result (audit_of scheme system.now a.now b.now c.now d.now) }
 {
     let number = comparable_refusal(scheme, system, a, b, c, d);
     if number != 0 {
@@ -166,7 +166,7 @@ fn audit<'a>(
 
 // Audits three records of scheme 3.
 pub fn audit_three<'a>(system: &'a [u8], a: &'a [u8], b: &'a [u8], c: &'a [u8]) -> Audited
-    ensures { Answers result (auditThree system.now a.now b.now c.now) }
+    ensures { Answers result (audit_three system.now a.now b.now c.now) }
 {
     audit(Scheme::ThreePass, system, a, b, c, c)
 }
@@ -179,7 +179,7 @@ pub fn audit_five<'a>(
     c: &'a [u8],
     d: &'a [u8],
 ) -> Audited
-    ensures { Answers result (auditFive system.now a.now b.now c.now d.now) }
+    ensures { Answers result (audit_five system.now a.now b.now c.now d.now) }
 {
     audit(Scheme::FivePass, system, a, b, c, d)
 }

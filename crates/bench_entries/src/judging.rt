@@ -1,17 +1,17 @@
 // A whole record judged, with no text made of it.
 ghost use Rattle.std.specs.Prelude.{◌≡◌};
 ghost use Rattle.refusal.specs.Refusal.{kept};
-ghost use Rattle.system.specs.System.{systemRefusal};
-ghost use Rattle.record_form.specs.Record.{headerIn};
-ghost use Rattle.transcript.specs.Transcript.{judgeRefusal, acceptedCount};
+ghost use Rattle.system.specs.System.{system_refusal};
+ghost use Rattle.record_form.specs.Record.{header_in};
+ghost use Rattle.transcript.specs.Transcript.{judge_refusal, accepted_count};
 
 use record::header_of;
 use transcript::{accepts_round, judge_refusal};
 
 // How many rounds of a record are accepted.
 fn accepted_rounds<'a>(system: &'a [u8], bytes: &'a [u8]) -> u8
-    requires { systemRefusal system.now ≡ 0 }
-    ensures { result ≡ acceptedCount system.now bytes.now (headerIn bytes.now).rounds }
+    requires { system_refusal system.now ≡ 0 }
+    ensures { result ≡ accepted_count system.now bytes.now (header_in bytes.now).rounds }
 {
     let rounds = header_of(bytes).rounds;
     let mut accepted = 0;
@@ -29,9 +29,9 @@ fn accepted_rounds<'a>(system: &'a [u8], bytes: &'a [u8]) -> u8
 // and then the count is what it was.
 #[unsafe(no_mangle)]
 pub extern "C" fn bench_judge<'a>(system: &'a [u8], bytes: &'a [u8], accepted: &mut u8) -> u8
-    ensures { (result ≡ judgeRefusal system.now bytes.now)
+    ensures { (result ≡ judge_refusal system.now bytes.now)
         × (accepted.new ≡ kept result accepted.old
-        (acceptedCount system.now bytes.now (headerIn bytes.now).rounds)) }
+        (accepted_count system.now bytes.now (header_in bytes.now).rounds)) }
 {
     let refused = judge_refusal(system, bytes);
     if refused != 0 {

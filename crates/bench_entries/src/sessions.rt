@@ -2,9 +2,9 @@
 // 5 has are refused, and leave the session as it is.
 ghost use Rattle.std.specs.Prelude.{◌≡◌, false, length};
 ghost use Rattle.refusal.specs.Refusal.{kept};
-ghost use Rattle.card_state.specs.Card.{sentCommitments, sentMiddle, sentReply, commitRefusal, alphaRefusal, replyRefusal as cardReplyRefusal};
-ghost use Rattle.carrier_state.specs.Carrier.{acceptsReply, replyRefusal as carrierReplyRefusal};
-ghost use Rattle.bench_entries.specs.Bench.{openCard, cardCommitted, cardAnswered, carrierAsked};
+ghost use Rattle.card_state.specs.Card.{sent_commitments, sent_middle, sent_reply, commit_refusal, alpha_refusal, reply_refusal as card_reply_refusal};
+ghost use Rattle.carrier_state.specs.Carrier.{accepts_reply, reply_refusal as carrier_reply_refusal};
+ghost use Rattle.bench_entries.specs.Bench.{open_card, card_committed, card_answered, carrier_asked};
 
 // The card: open with one round, commit, reply to α, reply. Answers the refusal of the reply.
 #[unsafe(no_mangle)]
@@ -20,26 +20,26 @@ pub extern "C" fn bench_card<'a>(
     middle: &mut [u8],
     reply: &mut [u8],
 ) -> u8
-    ensures { (result ≡ cardReplyRefusal
-        (cardAnswered system.now scheme v.now s.now lent.now
+    ensures { (result ≡ card_reply_refusal
+        (card_answered system.now scheme v.now s.now lent.now
         (length commitments.old) alpha (length middle.old))
         challenge (length reply.old))
         × (commitments.new ≡ kept
-        (commitRefusal (openCard system.now scheme v.now s.now)
+        (commit_refusal (open_card system.now scheme v.now s.now)
         system.now lent.now (length commitments.old))
         commitments.old
-        (sentCommitments (openCard system.now scheme v.now s.now)
+        (sent_commitments (open_card system.now scheme v.now s.now)
         system.now lent.now))
         × (middle.new ≡ kept
-        (alphaRefusal
-        (cardCommitted system.now scheme v.now s.now lent.now (length commitments.old))
+        (alpha_refusal
+        (card_committed system.now scheme v.now s.now lent.now (length commitments.old))
         system.now alpha (length middle.old))
         middle.old
-        (sentMiddle
-        (cardCommitted system.now scheme v.now s.now lent.now (length commitments.old))
+        (sent_middle
+        (card_committed system.now scheme v.now s.now lent.now (length commitments.old))
         system.now alpha))
-        × (reply.new ≡ kept result reply.old (sentReply
-        (cardAnswered system.now scheme v.now s.now lent.now
+        × (reply.new ≡ kept result reply.old (sent_reply
+        (card_answered system.now scheme v.now s.now lent.now
         (length commitments.old) alpha (length middle.old))
         challenge)) }
 {
@@ -63,12 +63,12 @@ pub extern "C" fn bench_carrier<'a>(
     reply: &'a [u8],
 ) -> bool
     ensures { result ≡ kept
-        (carrierReplyRefusal
-        (carrierAsked system.now scheme v.now commitments.now alpha middle.now challenge)
+        (carrier_reply_refusal
+        (carrier_asked system.now scheme v.now commitments.now alpha middle.now challenge)
         system.now reply.now)
         false
-        (acceptsReply
-        (carrierAsked system.now scheme v.now commitments.now alpha middle.now challenge)
+        (accepts_reply
+        (carrier_asked system.now scheme v.now commitments.now alpha middle.now challenge)
         system.now reply.now) }
 {
     let opened = carrier::open(system, scheme, 1, v).carrier;

@@ -1,8 +1,8 @@
 // The writer of records.
 ghost use Rattle.std.specs.Prelude.{◌≡◌, length};
 ghost use Rattle.refusal.specs.Refusal.{kept};
-ghost use Rattle.record_form.specs.Record.{headerOf, written};
-ghost use Rattle.record_writer.specs.Writer.{fieldsOf, writeRefusal};
+ghost use Rattle.record_form.specs.Record.{header_of, written};
+ghost use Rattle.record_writer.specs.Writer.{fields_of, write_refusal};
 
 // Writes a record.
 #[unsafe(no_mangle)]
@@ -17,10 +17,10 @@ pub extern "C" fn bench_write<'a>(
     exchanges: &'a [u8],
     out: &mut [u8],
 ) -> u8
-    ensures { (result ≡ writeRefusal scheme (fieldsOf (headerOf scheme q n m rounds) key.now commitments.now
+    ensures { (result ≡ write_refusal scheme (fields_of (header_of scheme q n m rounds) key.now commitments.now
         exchanges.now) (length out.old))
         × (out.new ≡ kept result out.old (written
-        (fieldsOf (headerOf scheme q n m rounds) key.now commitments.now exchanges.now))) }
+        (fields_of (header_of scheme q n m rounds) key.now commitments.now exchanges.now))) }
 {
     record_writer::write(scheme, q, n, m, rounds, key, commitments, exchanges, out)
 }

@@ -7,18 +7,18 @@
 
 ghost use Rattle.std.specs.Prelude.{◌≡◌, length};
 ghost use Rattle.refusal.specs.Refusal.{kept};
-ghost use Rattle.card_state.specs.Card.{commitRefusal, sentCommitments, alphaRefusal, sentMiddle};
-ghost use Rattle.carrier_state.specs.Carrier.{replyRefusal};
-ghost use Rattle.bench_refused.specs.Refused.{cardPhase, cardIn, carrierPhase, carrierIn};
+ghost use Rattle.card_state.specs.Card.{commit_refusal, sent_commitments, alpha_refusal, sent_middle};
+ghost use Rattle.carrier_state.specs.Carrier.{reply_refusal};
+ghost use Rattle.bench_refused.specs.Refused.{card_phase, card_in, carrier_phase, carrier_in};
 
 use card_state::{Card, CardPhase, card_with, closed_card, held_lent};
 use carrier_state::{Carrier, CarrierPhase, carrier_with, closed_carrier};
 use session_state::Verdict;
 
 // A card's phase by its number.
-#[tactic(auto, unfolding(crate::specs::Refused::cardPhase))]
+#[tactic(auto, unfolding(crate::specs::Refused::card_phase))]
 fn card_phase(number: u8) -> CardPhase
-    ensures { result ≡ cardPhase number }
+    ensures { result ≡ card_phase number }
 {
     match number {
         0 => CardPhase::Closed(Verdict::None),
@@ -29,7 +29,7 @@ fn card_phase(number: u8) -> CardPhase
 }
 
 fn card_in(phase: u8) -> Card
-    ensures { result ≡ cardIn phase }
+    ensures { result ≡ card_in phase }
 {
     let closed = closed_card();
     let e1 = closed.e1;
@@ -43,9 +43,9 @@ fn card_in(phase: u8) -> Card
 }
 
 // A carrier's phase by its number.
-#[tactic(auto, unfolding(crate::specs::Refused::carrierPhase))]
+#[tactic(auto, unfolding(crate::specs::Refused::carrier_phase))]
 fn carrier_phase(number: u8) -> CarrierPhase
-    ensures { result ≡ carrierPhase number }
+    ensures { result ≡ carrier_phase number }
 {
     match number {
         0 => CarrierPhase::Closed(Verdict::None),
@@ -58,7 +58,7 @@ fn carrier_phase(number: u8) -> CarrierPhase
 }
 
 fn carrier_in(phase: u8) -> Carrier
-    ensures { result ≡ carrierIn phase }
+    ensures { result ≡ carrier_in phase }
 {
     let closed = closed_carrier(Verdict::None, 0);
     let sent = closed.commitments;
@@ -81,8 +81,8 @@ pub extern "C" fn bench_commit<'a>(
     lent: &'a [u8],
     out: &mut [u8],
 ) -> u8
-    ensures { (result ≡ commitRefusal (cardIn phase) system.now lent.now (length out.old))
-        × (out.new ≡ kept result out.old (sentCommitments (cardIn phase) system.now lent.now)) }
+    ensures { (result ≡ commit_refusal (card_in phase) system.now lent.now (length out.old))
+        × (out.new ≡ kept result out.old (sent_commitments (card_in phase) system.now lent.now)) }
 {
     card::commit(card_in(phase), system, lent, out).refusal
 }
@@ -90,8 +90,8 @@ pub extern "C" fn bench_commit<'a>(
 // The card's answer to α.
 #[unsafe(no_mangle)]
 pub extern "C" fn bench_answer_alpha(phase: u8, system: &[u8], alpha: u8, out: &mut [u8]) -> u8
-    ensures { (result ≡ alphaRefusal (cardIn phase) system.now alpha (length out.old))
-        × (out.new ≡ kept result out.old (sentMiddle (cardIn phase) system.now alpha)) }
+    ensures { (result ≡ alpha_refusal (card_in phase) system.now alpha (length out.old))
+        × (out.new ≡ kept result out.old (sent_middle (card_in phase) system.now alpha)) }
 {
     card::answer_alpha(card_in(phase), system, alpha, out).refusal
 }
@@ -99,7 +99,7 @@ pub extern "C" fn bench_answer_alpha(phase: u8, system: &[u8], alpha: u8, out: &
 // The carrier's taking of a reply.
 #[unsafe(no_mangle)]
 pub extern "C" fn bench_take_reply<'a>(phase: u8, system: &'a [u8], reply: &'a [u8]) -> u8
-    ensures { result ≡ replyRefusal (carrierIn phase) system.now reply.now }
+    ensures { result ≡ reply_refusal (carrier_in phase) system.now reply.now }
 {
     carrier::take_reply(carrier_in(phase), system, reply).refusal
 }

@@ -1,6 +1,6 @@
 // The labels of all cards: no wrong half, and rising.
 ghost use Rattle.std.specs.Prelude.{◌≡◌, ◌+◌, ◌*◌, ◌≤◌, length};
-ghost use Rattle.book_form.specs.Labels.{labelAt, isAbove, labelRefusal, labelsRefusal};
+ghost use Rattle.book_form.specs.Labels.{label_at, is_above, label_refusal, labels_refusal};
 
 use crate::layout::of_cards;
 use label::{is_below, is_label};
@@ -9,7 +9,7 @@ use slices::part;
 
 // The label of card i, where a label starts every `each` bytes.
 pub fn label_at(bytes: &[u8], each: u8, i: u32) -> &[u8]
-    ensures { result.now ≡ labelAt each bytes.now i }
+    ensures { result.now ≡ label_at each bytes.now i }
 {
     part(bytes, of_cards(i, each), 10)
 }
@@ -17,7 +17,7 @@ pub fn label_at(bytes: &[u8], each: u8, i: u32) -> &[u8]
 // The same where it is known to be whole.
 fn label_in(bytes: &[u8], each: u8, i: u32) -> &[u8]
     requires { i * each + 10 ≤ length bytes.now }
-    ensures { result.now ≡ labelAt each bytes.now i }
+    ensures { result.now ≡ label_at each bytes.now i }
 {
     let at = of_cards(i, each);
     &bytes[at..at + 10]
@@ -26,7 +26,7 @@ fn label_in(bytes: &[u8], each: u8, i: u32) -> &[u8]
 // Whether the label of card i is above the one before.
 fn is_above(bytes: &[u8], each: u8, i: u32) -> bool
     requires { i * each + 10 ≤ length bytes.now }
-    ensures { result ≡ isAbove each bytes.now i }
+    ensures { result ≡ is_above each bytes.now i }
 {
     if i == 0 {
         return true;
@@ -37,7 +37,7 @@ fn is_above(bytes: &[u8], each: u8, i: u32) -> bool
 // The refusal of card i's label.
 fn label_refusal(bytes: &[u8], each: u8, i: u32) -> u8
     requires { i * each + 10 ≤ length bytes.now }
-    ensures { result ≡ labelRefusal each bytes.now i }
+    ensures { result ≡ label_refusal each bytes.now i }
 {
     let halves = unless(is_label(label_in(bytes, each, i)), 12);
     let order = unless(is_above(bytes, each, i), 13);
@@ -47,7 +47,7 @@ fn label_refusal(bytes: &[u8], each: u8, i: u32) -> u8
 // The refusal of the first card at fault; it ends there.
 pub fn labels_refusal(bytes: &[u8], each: u8, count: u32) -> u8
     requires { (count * each ≤ length bytes.now) × (10 ≤ each) }
-    ensures { result ≡ labelsRefusal each count bytes.now }
+    ensures { result ≡ labels_refusal each count bytes.now }
 {
     let mut i = 0;
     while i < count {

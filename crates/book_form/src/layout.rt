@@ -1,6 +1,6 @@
 // Where the table and the keys of a book stand.
 ghost use Rattle.std.specs.Prelude.{◌≡◌, ◌*◌, ◌≤◌};
-ghost use Rattle.book_form.specs.Book.{offsetOf, bookLength};
+ghost use Rattle.book_form.specs.Book.{offset_of, book_length};
 
 // What stands before the table.
 #[derive(Clone, Copy)]
@@ -27,14 +27,14 @@ pub fn table_length(count: u32) -> usize
 
 // Where the key of card i stands, counted from 0.
 pub fn offset_of(h: Front, i: u32) -> usize
-    ensures { (result ≡ offsetOf h i) × (result ≤ 3000000000000) }
+    ensures { (result ≡ offset_of h i) × (result ≤ 3000000000000) }
 {
     7 + table_length(h.count) + of_cards(i, h.m)
 }
 
 // The bytes of a whole book.
 pub fn book_length(h: Front) -> usize
-    ensures { (result ≡ bookLength h) × (result ≤ 3000000000000) }
+    ensures { (result ≡ book_length h) × (result ≤ 3000000000000) }
 {
     offset_of(h, h.count)
 }

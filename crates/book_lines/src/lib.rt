@@ -5,11 +5,11 @@
 
 ghost use Rattle.std.specs.Prelude.{◌≡◌, ◌++◌, ◌+◌, ◌*◌, ◌≤◌, ◌<◌, length};
 ghost use Rattle.slices.specs.Slices.{placed, joined};
-ghost use Rattle.book_form.specs.Book.{frontIn};
-ghost use Rattle.book_reader.specs.Reader.{bookRefusal};
-ghost use Rattle.book_lookup.specs.Lookup.{lookupOf};
-ghost use Rattle.iccid.specs.Iccid.{labelFrom};
-ghost use Rattle.book_lines.specs.BookLines.{cardLine, sizesLine, cardOf, bookText, keyLine, answerLine, lookupText};
+ghost use Rattle.book_form.specs.Book.{front_in};
+ghost use Rattle.book_reader.specs.Reader.{book_refusal};
+ghost use Rattle.book_lookup.specs.Lookup.{lookup_of};
+ghost use Rattle.iccid.specs.Iccid.{label_from};
+ghost use Rattle.book_lines.specs.BookLines.{card_line, sizes_line, card_of, book_text, key_line, answer_line, lookup_text};
 
 use book_form::{Front, label_at};
 use book_lookup::{Answer, LookedUp, lookup};
@@ -23,8 +23,8 @@ use text::{append, append_count, append_number, append_numbers};
 // `8944100000000000013 0506`
 fn card_line<'a>(text: &mut [u8], at: usize, label: &'a [u8], key: &'a [u8]) -> usize
     requires { at + 2 * length label.now + 2 * length key.now + 2 ≤ length text.old }
-    ensures { (text.new ≡ placed text.old «at» (cardLine label.now key.now))
-        × (result ≡ at + length (cardLine label.now key.now))
+    ensures { (text.new ≡ placed text.old «at» (card_line label.now key.now))
+        × (result ≡ at + length (card_line label.now key.now))
         × (result ≤ at + 2 * length label.now + 2 * length key.now + 2) }
 {
     let next = append_label(text, at, label);
@@ -36,7 +36,7 @@ fn card_line<'a>(text: &mut [u8], at: usize, label: &'a [u8], key: &'a [u8]) -> 
 // `q 7 n 2 m 2 count 3`
 fn sizes_line(text: &mut [u8], h: Front) -> usize
     requires { 29 ≤ length text.old }
-    ensures { (text.new ≡ placed text.old 0 (sizesLine h)) × (result ≡ length (sizesLine h)) × (result ≤ 29) }
+    ensures { (text.new ≡ placed text.old 0 (sizes_line h)) × (result ≡ length (sizes_line h)) × (result ≤ 29) }
 {
     let next = append_numbers(text, 0, b"q ", h.q, b" n ", h.n);
     let next = append_number(text, next, b" m ", h.m);
@@ -46,9 +46,9 @@ fn sizes_line(text: &mut [u8], h: Front) -> usize
 
 // Puts the line of card i.
 fn append_card(book: &[u8], i: u32, text: &mut [u8], at: usize) -> usize
-    requires { ((frontIn book.now).m ≤ 96) × (at + 214 ≤ length text.old) }
-    ensures { (text.new ≡ placed text.old «at» (cardOf book.now i))
-        × (result ≡ at + length (cardOf book.now i)) × (result ≤ at + 214) }
+    requires { ((front_in book.now).m ≤ 96) × (at + 214 ≤ length text.old) }
+    ensures { (text.new ≡ placed text.old «at» (card_of book.now i))
+        × (result ≡ at + length (card_of book.now i)) × (result ≤ at + 214) }
 {
     let label = label_at(table_of(book), 14, i);
     card_line(text, at, label, key_at(book, i))
@@ -56,10 +56,10 @@ fn append_card(book: &[u8], i: u32, text: &mut [u8], at: usize) -> usize
 
 // The numbers of a book that is not refused, then a line a card.
 fn all_cards(book: &[u8], text: &mut [u8]) -> usize
-    requires { (bookRefusal book.now ≡ 0) × (length text.old ≡ 428064) }
+    requires { (book_refusal book.now ≡ 0) × (length text.old ≡ 428064) }
     ensures { (text.new ≡ placed text.old 0
-        (sizesLine (frontIn book.now) ++ joined (frontIn book.now).count (cardOf book.now)))
-        × (result ≡ length (sizesLine (frontIn book.now) ++ joined (frontIn book.now).count (cardOf book.now))) }
+        (sizes_line (front_in book.now) ++ joined (front_in book.now).count (card_of book.now)))
+        × (result ≡ length (sizes_line (front_in book.now) ++ joined (front_in book.now).count (card_of book.now))) }
 {
     let h = front_of(book);
     let count = h.count;
@@ -74,7 +74,7 @@ fn all_cards(book: &[u8], text: &mut [u8]) -> usize
 
 // All cards of a book, or its refusal.
 pub fn book_text(book: &[u8], text: &mut [u8; 428064]) -> usize
-    ensures { (text.new ≡ placed text.old 0 (bookText book.now)) × (result ≡ length (bookText book.now)) }
+    ensures { (text.new ≡ placed text.old 0 (book_text book.now)) × (result ≡ length (book_text book.now)) }
 {
     let refused = refusal_of(read(book));
     if refused != 0 {
@@ -85,7 +85,7 @@ pub fn book_text(book: &[u8], text: &mut [u8; 428064]) -> usize
 
 // Looks the label of an ICCID up.
 fn looked_up<'a>(book: &'a [u8], iccid: &'a [u8]) -> LookedUp
-    ensures { result ≡ lookupOf book.now (labelFrom iccid.now) }
+    ensures { result ≡ lookup_of book.now (label_from iccid.now) }
 {
     let label = bytes_from(iccid);
     lookup(book, part(&label, 0, label_length(iccid)))
@@ -94,7 +94,7 @@ fn looked_up<'a>(book: &'a [u8], iccid: &'a [u8]) -> LookedUp
 // A key alone on its line.
 fn key_line(text: &mut [u8], key: &[u8]) -> usize
     requires { 2 * length key.now + 1 ≤ length text.old }
-    ensures { (text.new ≡ placed text.old 0 (keyLine key.now)) × (result ≡ length (keyLine key.now)) }
+    ensures { (text.new ≡ placed text.old 0 (key_line key.now)) × (result ≡ length (key_line key.now)) }
 {
     let next = append_hex(text, 0, key);
     append(text, next, b"\n")
@@ -103,8 +103,8 @@ fn key_line(text: &mut [u8], key: &[u8]) -> usize
 // The key, `absent`, or the refusal.
 fn answer_line(text: &mut [u8], answer: Answer, key: &[u8]) -> usize
     requires { (length key.now ≤ 96) × (length text.old ≡ 428064) }
-    ensures { (text.new ≡ placed text.old 0 (answerLine answer key.now))
-        × (result ≡ length (answerLine answer key.now)) }
+    ensures { (text.new ≡ placed text.old 0 (answer_line answer key.now))
+        × (result ≡ length (answer_line answer key.now)) }
 {
     match answer {
         Answer::Found => key_line(text, key),
@@ -115,8 +115,8 @@ fn answer_line(text: &mut [u8], answer: Answer, key: &[u8]) -> usize
 
 // The key of the card with an ICCID, or that there is none.
 pub fn lookup_text<'a>(book: &'a [u8], iccid: &'a [u8], text: &mut [u8; 428064]) -> usize
-    ensures { (text.new ≡ placed text.old 0 (lookupText book.now iccid.now))
-        × (result ≡ length (lookupText book.now iccid.now)) }
+    ensures { (text.new ≡ placed text.old 0 (lookup_text book.now iccid.now))
+        × (result ≡ length (lookup_text book.now iccid.now)) }
 {
     let found = looked_up(book, iccid);
     let answer = found.answer;

@@ -10,156 +10,156 @@ use lib.Dec.{eqb}
 use lib.ListN.{length}
 use borrow.Author.Tests.{eqb-true, eqb-false, eq-eqb, ne_eqb}
 use Rattle.slices.specs.Slices.{same, number}
-use Rattle.slices.proofs.Sameness.{same-true, same-by}
-use Rattle.field.specs.Vector.{asVector}
-use Rattle.refusal.specs.Refusal.{firstWhere}
-use Rattle.refusal.proofs.Refusals.{first-zero, later-zero, test-holds, both-zero, unless-holds, unless-most, orElse-most}
-use Rattle.refusal.proofs.Search.{none-where, where-found}
+use Rattle.slices.proofs.Sameness.{same_true, same_by}
+use Rattle.field.specs.Vector.{as_vector}
+use Rattle.refusal.specs.Refusal.{first_where}
+use Rattle.refusal.proofs.Refusals.{first_zero, later_zero, test_holds, both_zero, unless_holds, unless_most, or_else_most}
+use Rattle.refusal.proofs.Search.{none_where, where_found}
 use Rattle.label.specs.Label.{WellFormedLabel}
-use Rattle.label.specs.Tests.{isLabel}
-use Rattle.label.proofs.Labels.{well-formed as well-formed-label, is-label}
+use Rattle.label.specs.Tests.{is_label}
+use Rattle.label.proofs.Labels.{well_formed as well_formed_label, is_label_lem}
 use Rattle.book_form.specs.declared.layout.Front.{Front}
-use Rattle.book_form.specs.Book.{labelOf, keyOf, Fields, written, frontIn, tableIn, fieldsIn, Valid, WellFormedBook, Bytes}
-use Rattle.book_form.specs.Labels.{labelAt, labelsRefusal}
-use Rattle.book_form.proofs.BookLayout.{front-written, fields-written, label-written}
-use Rattle.book_form.proofs.Rising.{none-refused, one-card}
-use Rattle.book_reader.specs.Reader.{bookRefusal}
-use Rattle.book_reader.proofs.WellFormed.{accepted, written-accepted, well-formed, refusal-most}
+use Rattle.book_form.specs.Book.{label_of, key_of, Fields, written, front_in, table_in, fields_in, Valid, WellFormedBook, Bytes}
+use Rattle.book_form.specs.Labels.{label_at, labels_refusal}
+use Rattle.book_form.proofs.BookLayout.{front_written, fields_written, label_written}
+use Rattle.book_form.proofs.Rising.{none_refused, one_card}
+use Rattle.book_reader.specs.Reader.{book_refusal}
+use Rattle.book_reader.proofs.WellFormed.{accepted, written_accepted, well_formed, refusal_most}
 use Rattle.book_lookup.specs.declared.Answer.{Answer}
 use Rattle.book_lookup.specs.declared.Answer.TheVariants.{Found, Absent, Refused}
 use Rattle.book_lookup.specs.declared.LookedUp.{LookedUp}
 use Rattle.book_lookup.specs.Claim.{HasLabel, RightAnswer}
-use Rattle.book_lookup.specs.Lookup.{placeIn, keyIn, noKey, lookupAt, lookupRefusal, lookupOf, refusalOf}
+use Rattle.book_lookup.specs.Lookup.{place_in, key_in, no_key, lookup_at, lookup_refusal, lookup_of, refusal_of}
 
 -- ---- the three cases
 
-pub looked-refused : (b label : List ℕ) → (lookupRefusal b label ≡ 0 → ⊥) → lookupOf b label ≡ noKey (Refused (lookupRefusal b label))
-unfolding lookupOf
-looked-refused b label some = simp (ne_eqb (lookupRefusal b label) 0 some)
+pub looked_refused : (b label : List ℕ) → (lookup_refusal b label ≡ 0 → ⊥) → lookup_of b label ≡ no_key (Refused (lookup_refusal b label))
+unfolding lookup_of
+looked_refused b label some = simp (ne_eqb (lookup_refusal b label) 0 some)
 
-pub looked-absent : (b label : List ℕ) → lookupRefusal b label ≡ 0 → placeIn (tableIn b) (frontIn b).count label ≡ 0 → lookupOf b label ≡ noKey Absent
-unfolding lookupOf lookupAt
-looked-absent b label none nowhere = simp (eq-eqb (lookupRefusal b label) 0 none, eq-eqb (placeIn (tableIn b) (frontIn b).count label) 0 nowhere)
+pub looked_absent : (b label : List ℕ) → lookup_refusal b label ≡ 0 → place_in (table_in b) (front_in b).count label ≡ 0 → lookup_of b label ≡ no_key Absent
+unfolding lookup_of lookup_at
+looked_absent b label none nowhere = simp (eq-eqb (lookup_refusal b label) 0 none, eq-eqb (place_in (table_in b) (front_in b).count label) 0 nowhere)
 
-pub looked-found : (b label : List ℕ) → lookupRefusal b label ≡ 0 → (placeIn (tableIn b) (frontIn b).count label ≡ 0 → ⊥) →
-    lookupOf b label ≡ record { answer = Found; key = keyIn b (placeIn (tableIn b) (frontIn b).count label - 1) }
-unfolding lookupOf lookupAt
-looked-found b label none somewhere = simp (eq-eqb (lookupRefusal b label) 0 none, ne_eqb (placeIn (tableIn b) (frontIn b).count label) 0 somewhere)
+pub looked_found : (b label : List ℕ) → lookup_refusal b label ≡ 0 → (place_in (table_in b) (front_in b).count label ≡ 0 → ⊥) →
+    lookup_of b label ≡ record { answer = Found; key = key_in b (place_in (table_in b) (front_in b).count label - 1) }
+unfolding lookup_of lookup_at
+looked_found b label none somewhere = simp (eq-eqb (lookup_refusal b label) 0 none, ne_eqb (place_in (table_in b) (front_in b).count label) 0 somewhere)
 
 -- the labels of a book that is not refused rise
-pub labels-not-refused : (b label : List ℕ) → lookupRefusal b label ≡ 0 → labelsRefusal 14 (frontIn b).count (tableIn b) ≡ 0
-unfolding lookupRefusal
-labels-not-refused b label none = none-refused 14 (frontIn b).count (tableIn b) (accepted b (first-zero _ _ none)).labels-rise
+pub labels_not_refused : (b label : List ℕ) → lookup_refusal b label ≡ 0 → labels_refusal 14 (front_in b).count (table_in b) ≡ 0
+unfolding lookup_refusal
+labels_not_refused b label none = none_refused 14 (front_in b).count (table_in b) (accepted b (first_zero _ _ none)).labels_rise
 
 -- ---- the claims
 
 -- which case an answer is
-unfoldable caseOf : Answer → ℕ
-caseOf Found = 0
-caseOf Absent = 1
-caseOf (Refused number) = 2
+unfoldable case_of : Answer → ℕ
+case_of Found = 0
+case_of Absent = 1
+case_of (Refused number) = 2
 
 module _ (f : Fields) (v : Valid f) (label : List ℕ) (w : WellFormedLabel label) where
-  book-good : bookRefusal (written f) ≡ 0
-  book-good = written-accepted f v
+  book_good : book_refusal (written f) ≡ 0
+  book_good = written_accepted f v
 
   small : f.front.count < 4294967296
-  small = let few = v.count-value in omega (arith, few)
+  small = let few = v.count_value in omega (arith, few)
 
-  not-refused : lookupRefusal (written f) label ≡ 0
-  unfolding lookupRefusal
-  not-refused =
-      both-zero _ _ book-good (both-zero _ _ (unless-holds _ 2 (eq-eqb (length label) 10 w.ten-bytes)) (unless-holds _ 12 (is-label label w)))
+  not_refused : lookup_refusal (written f) label ≡ 0
+  unfolding lookup_refusal
+  not_refused =
+      both_zero _ _ book_good (both_zero _ _ (unless_holds _ 2 (eq-eqb (length label) 10 w.ten_bytes)) (unless_holds _ 12 (is_label_lem label w)))
 
-  counted : (frontIn (written f)).count ≡ f.front.count
-  counted = ap (λ (h : Front). h.count) (front-written f v.labels-length small)
+  counted : (front_in (written f)).count ≡ f.front.count
+  counted = ap (λ (h : Front). h.count) (front_written f v.labels_length small)
 
-  place-is : placeIn (tableIn (written f)) (frontIn (written f)).count label ≡ firstWhere f.front.count (λ i. same (labelAt 14 (tableIn (written f)) i) label)
-  unfolding placeIn
-  place-is = ap (λ (k : ℕ). firstWhere k (λ i. same (labelAt 14 (tableIn (written f)) i) label)) counted
+  place_is : place_in (table_in (written f)) (front_in (written f)).count label ≡ first_where f.front.count (λ i. same (label_at 14 (table_in (written f)) i) label)
+  unfolding place_in
+  place_is = ap (λ (k : ℕ). first_where k (λ i. same (label_at 14 (table_in (written f)) i) label)) counted
 
-  only-card : (i j : ℕ) → HasLabel f label i → HasLabel f label j → i ≡ j
-  only-card i j (hi, ei) (hj, ej) =
-      one-card f.front.count (labelOf f.labels) (record { each = v.each-label; next = v.rising }) i j hi hj (ei ∙ sym ej)
+  only_card : (i j : ℕ) → HasLabel f label i → HasLabel f label j → i ≡ j
+  only_card i j (hi, ei) (hj, ej) =
+      one_card f.front.count (label_of f.labels) (record { each = v.each_label; next = v.rising }) i j hi hj (ei ∙ sym ej)
 
-  found : (i : ℕ) → HasLabel f label i → placeIn (tableIn (written f)) (frontIn (written f)).count label ≡ i + 1
+  found : (i : ℕ) → HasLabel f label i → place_in (table_in (written f)) (front_in (written f)).count label ≡ i + 1
   found i (h, e) =
-      place-is ∙
-      where-found f.front.count _ i
-      (record { within = h; holds = same-by _ label (label-written f v.labels-length small i h ∙ e); before = λ j below. differs j below })
+      place_is ∙
+      where_found f.front.count _ i
+      (record { within = h; holds = same_by _ label (label_written f v.labels_length small i h ∙ e); before = λ j below. differs j below })
     where
-      differs : (j : ℕ) → j < i → same (labelAt 14 (tableIn (written f)) j) label ≡ false
-      differs j below = go (same (labelAt 14 (tableIn (written f)) j) label) refl
+      differs : (j : ℕ) → j < i → same (label_at 14 (table_in (written f)) j) label ≡ false
+      differs j below = go (same (label_at 14 (table_in (written f)) j) label) refl
         where
-          go : (t : Bool) → same (labelAt 14 (tableIn (written f)) j) label ≡ t → same (labelAt 14 (tableIn (written f)) j) label ≡ false
+          go : (t : Bool) → same (label_at 14 (table_in (written f)) j) label ≡ t → same (label_at 14 (table_in (written f)) j) label ≡ false
           go true is =
               let hj : j < f.front.count = omega (arith, below, h) in
-              let there = sym (label-written f v.labels-length small j hj) ∙ same-true _ label is in
-              let one = only-card j i (hj, there) (h, e) in
+              let there = sym (label_written f v.labels_length small j hj) ∙ same_true _ label is in
+              let one = only_card j i (hj, there) (h, e) in
               absurd (omega (arith, one, below))
-          go false no-match = no-match
+          go false no_match = no_match
 
-  key-written : (i : ℕ) → keyIn (written f) i ≡ asVector (keyOf f.front f.keys i)
-  unfolding keyIn
-  key-written i =
-      ap (λ (h : Front). asVector (keyOf h (fieldsIn (written f)).keys i)) (front-written f v.labels-length small) ∙
-      ap (λ (g : Fields). asVector (keyOf f.front g.keys i)) (fields-written f v.labels-length small)
+  key_written : (i : ℕ) → key_in (written f) i ≡ as_vector (key_of f.front f.keys i)
+  unfolding key_in
+  key_written i =
+      ap (λ (h : Front). as_vector (key_of h (fields_in (written f)).keys i)) (front_written f v.labels_length small) ∙
+      ap (λ (g : Fields). as_vector (key_of f.front g.keys i)) (fields_written f v.labels_length small)
 
-  found-answer : (i : ℕ) → HasLabel f label i → lookupOf (written f) label ≡ record { answer = Found; key = asVector (keyOf f.front f.keys i) }
-  found-answer i h =
+  found_answer : (i : ℕ) → HasLabel f label i → lookup_of (written f) label ≡ record { answer = Found; key = as_vector (key_of f.front f.keys i) }
+  found_answer i h =
       let here = found i h in
-      let index : placeIn (tableIn (written f)) (frontIn (written f)).count label - 1 ≡ i = omega (arith, here) in
-      let key = ap (keyIn (written f)) index ∙ key-written i in
-      looked-found (written f) label not-refused (λ none. absurd (omega (arith, here, none))) ∙ (λ j. record { answer = Found; key = key j })
+      let index : place_in (table_in (written f)) (front_in (written f)).count label - 1 ≡ i = omega (arith, here) in
+      let key = ap (key_in (written f)) index ∙ key_written i in
+      looked_found (written f) label not_refused (λ none. absurd (omega (arith, here, none))) ∙ (λ j. record { answer = Found; key = key j })
 
-  absent-answer : ((i : ℕ) → HasLabel f label i → ⊥) → lookupOf (written f) label ≡ noKey Absent
-  absent-answer nobody = looked-absent (written f) label not-refused (place-is ∙ none-where f.front.count _ (λ i h. differs i h))
+  absent_answer : ((i : ℕ) → HasLabel f label i → ⊥) → lookup_of (written f) label ≡ no_key Absent
+  absent_answer nobody = looked_absent (written f) label not_refused (place_is ∙ none_where f.front.count _ (λ i h. differs i h))
     where
-      differs : (i : ℕ) → i < f.front.count → same (labelAt 14 (tableIn (written f)) i) label ≡ false
-      differs i h = go (same (labelAt 14 (tableIn (written f)) i) label) refl
+      differs : (i : ℕ) → i < f.front.count → same (label_at 14 (table_in (written f)) i) label ≡ false
+      differs i h = go (same (label_at 14 (table_in (written f)) i) label) refl
         where
-          go : (t : Bool) → same (labelAt 14 (tableIn (written f)) i) label ≡ t → same (labelAt 14 (tableIn (written f)) i) label ≡ false
-          go true is = absurd (nobody i (h, sym (label-written f v.labels-length small i h) ∙ same-true _ label is))
-          go false no-match = no-match
+          go : (t : Bool) → same (label_at 14 (table_in (written f)) i) label ≡ t → same (label_at 14 (table_in (written f)) i) label ≡ false
+          go true is = absurd (nobody i (h, sym (label_written f v.labels_length small i h) ∙ same_true _ label is))
+          go false no_match = no_match
 
-  right : RightAnswer f label (lookupOf (written f) label)
-  unfolding caseOf noKey
+  right : RightAnswer f label (lookup_of (written f) label)
+  unfolding case_of no_key
   right =
       record {
-        absent-when = (
-          λ absent i h. absurd (omega (arith, sym (ap (λ (r : LookedUp). caseOf r.answer) (found-answer i h)) ∙ ap caseOf absent)),
-          λ nobody. ap (λ (r : LookedUp). r.answer) (absent-answer nobody),
+        absent_when = (
+          λ absent i h. absurd (omega (arith, sym (ap (λ (r : LookedUp). case_of r.answer) (found_answer i h)) ∙ ap case_of absent)),
+          λ nobody. ap (λ (r : LookedUp). r.answer) (absent_answer nobody),
         );
-        found-when = found-answer;
-        one-card = only-card;
+        found_when = found_answer;
+        one_card = only_card;
       }
 
 -- of every well-formed book and label
-pub lookup-right : (b label : List ℕ) (w : WellFormedBook b) → WellFormedLabel label → RightAnswer w.fields label (lookupOf b label)
-lookup-right b label w is = subst (λ (l : List ℕ). RightAnswer w.fields label (lookupOf l label)) (sym w.laid-out) (right w.fields w.valid label is)
+pub lookup_right : (b label : List ℕ) (w : WellFormedBook b) → WellFormedLabel label → RightAnswer w.fields label (lookup_of b label)
+lookup_right b label w is = subst (λ (l : List ℕ). RightAnswer w.fields label (lookup_of l label)) (sym w.laid_out) (right w.fields w.valid label is)
 
 -- "the book's own refusals, then of the label": the number is 0 exactly where both are well-formed
-pub answer-number : (b label : List ℕ) → refusalOf (lookupOf b label).answer ≡ lookupRefusal b label
-unfolding lookupOf lookupAt refusalOf noKey
-answer-number b label = go (eqb (lookupRefusal b label) 0) (eqb (placeIn (tableIn b) (frontIn b).count label) 0) refl refl
+pub answer_number_lem : (b label : List ℕ) → refusal_of (lookup_of b label).answer ≡ lookup_refusal b label
+unfolding lookup_of lookup_at refusal_of no_key
+answer_number_lem b label = go (eqb (lookup_refusal b label) 0) (eqb (place_in (table_in b) (front_in b).count label) 0) refl refl
   where
-    go : (t u : Bool) → eqb (lookupRefusal b label) 0 ≡ t → eqb (placeIn (tableIn b) (frontIn b).count label) 0 ≡ u → refusalOf (lookupOf b label).answer ≡ lookupRefusal b label
-    go true true none nowhere = ap (λ (r : LookedUp). refusalOf r.answer) (looked-absent b label (eqb-true _ _ none) (eqb-true _ _ nowhere)) ∙ sym (eqb-true _ _ none)
-    go true false none somewhere = ap (λ (r : LookedUp). refusalOf r.answer) (looked-found b label (eqb-true _ _ none) (eqb-false _ _ somewhere)) ∙ sym (eqb-true _ _ none)
-    go false u some any = ap (λ (r : LookedUp). refusalOf r.answer) (looked-refused b label (eqb-false _ _ some))
+    go : (t u : Bool) → eqb (lookup_refusal b label) 0 ≡ t → eqb (place_in (table_in b) (front_in b).count label) 0 ≡ u → refusal_of (lookup_of b label).answer ≡ lookup_refusal b label
+    go true true none nowhere = ap (λ (r : LookedUp). refusal_of r.answer) (looked_absent b label (eqb-true _ _ none) (eqb-true _ _ nowhere)) ∙ sym (eqb-true _ _ none)
+    go true false none somewhere = ap (λ (r : LookedUp). refusal_of r.answer) (looked_found b label (eqb-true _ _ none) (eqb-false _ _ somewhere)) ∙ sym (eqb-true _ _ none)
+    go false u some any = ap (λ (r : LookedUp). refusal_of r.answer) (looked_refused b label (eqb-false _ _ some))
 
 -- no number is above 13
-pub lookup-most : (b label : List ℕ) → lookupRefusal b label ≤ 13
-unfolding lookupRefusal
-lookup-most b label = orElse-most _ _ 13 (refusal-most b) (orElse-most _ _ 13 (unless-most _ 2 13 tt) (unless-most _ 12 13 tt))
+pub lookup_most : (b label : List ℕ) → lookup_refusal b label ≤ 13
+unfolding lookup_refusal
+lookup_most b label = or_else_most _ _ 13 (refusal_most b) (or_else_most _ _ 13 (unless_most _ 2 13 tt) (unless_most _ 12 13 tt))
 
-pub lookup-refused : (b label : List ℕ) → Bytes b → (refusalOf (lookupOf b label).answer ≡ 0) ↔ (WellFormedBook b × WellFormedLabel label)
-unfolding lookupRefusal
-lookup-refused b label bytes = (
+pub lookup_refused : (b label : List ℕ) → Bytes b → (refusal_of (lookup_of b label).answer ≡ 0) ↔ (WellFormedBook b × WellFormedLabel label)
+unfolding lookup_refusal
+lookup_refused b label bytes = (
   λ none.
-      let zeroed = sym (answer-number b label) ∙ none in
-      ((well-formed b bytes).0 (first-zero _ _ zeroed), well-formed-label label (test-holds (isLabel label) 12 tt (later-zero _ _ (later-zero _ _ zeroed)))),
+      let zeroed = sym (answer_number_lem b label) ∙ none in
+      ((well_formed b bytes).0 (first_zero _ _ zeroed), well_formed_label label (test_holds (is_label label) 12 tt (later_zero _ _ (later_zero _ _ zeroed)))),
   λ k.
-      answer-number b label ∙
-      both-zero _ _ ((well-formed b bytes).1 k.0) (both-zero _ _ (unless-holds _ 2 (eq-eqb (length label) 10 k.1.ten-bytes)) (unless-holds _ 12 (is-label label k.1))),
+      answer_number_lem b label ∙
+      both_zero _ _ ((well_formed b bytes).1 k.0) (both_zero _ _ (unless_holds _ 2 (eq-eqb (length label) 10 k.1.ten_bytes)) (unless_holds _ 12 (is_label_lem label k.1))),
 )

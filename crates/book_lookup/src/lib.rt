@@ -6,8 +6,8 @@
 #![tactic(auto)]
 
 ghost use Rattle.std.specs.Prelude.{◌≡◌};
-ghost use Rattle.book_form.specs.Labels.{labelsRefusal};
-ghost use Rattle.book_lookup.specs.Lookup.{placeIn, keyIn, noKey, lookupRefusal, lookupOf, refusalOf, LowerBound};
+ghost use Rattle.book_form.specs.Labels.{labels_refusal};
+ghost use Rattle.book_lookup.specs.Lookup.{place_in, key_in, no_key, lookup_refusal, lookup_of, refusal_of, LowerBound};
 
 use book_form::label_at;
 use book_reader::{Reading, key_at, read, refusal_of, table_of};
@@ -33,7 +33,7 @@ pub struct LookedUp {
 
 // The answer where there is no key.
 fn no_key(answer: Answer) -> LookedUp
-    ensures { result ≡ noKey answer }
+    ensures { result ≡ no_key answer }
 {
     LookedUp {
         answer,
@@ -43,7 +43,7 @@ fn no_key(answer: Answer) -> LookedUp
 
 // The number of cards whose labels stand below this one. The labels rise: a half of those that are left is left out each time.
 fn lower_bound<'a>(table: &'a [u8], count: u32, label: &'a [u8]) -> u32
-    requires { labelsRefusal 14 count table.now ≡ 0 }
+    requires { labels_refusal 14 count table.now ≡ 0 }
     ensures { LowerBound table.now count label.now result }
 {
     let mut low = 0;
@@ -61,8 +61,8 @@ fn lower_bound<'a>(table: &'a [u8], count: u32, label: &'a [u8]) -> u32
 
 // Which card has this label, counted from 1; 0 where none has.
 fn place_of<'a>(table: &'a [u8], count: u32, label: &'a [u8]) -> u32
-    requires { labelsRefusal 14 count table.now ≡ 0 }
-    ensures { result ≡ placeIn table.now count label.now }
+    requires { labels_refusal 14 count table.now ≡ 0 }
+    ensures { result ≡ place_in table.now count label.now }
 {
     let below = lower_bound(table, count, label);
     // of the cards that are not below, the first may have it
@@ -77,14 +77,14 @@ fn place_of<'a>(table: &'a [u8], count: u32, label: &'a [u8]) -> u32
 
 // The key of card i by value.
 fn key_of(book: &[u8], i: u32) -> [u8; 96]
-    ensures { result ≡ keyIn book.now i }
+    ensures { result ≡ key_in book.now i }
 {
     from_slice(key_at(book, i))
 }
 
 // The refusal of a call.
 fn lookup_refusal<'a>(book: &'a [u8], label: &'a [u8]) -> u8
-    ensures { result ≡ lookupRefusal book.now label.now }
+    ensures { result ≡ lookup_refusal book.now label.now }
 {
     let of_book = refusal_of(read(book));
     let of_length = unless(label.len() == 10, 2);
@@ -94,8 +94,8 @@ fn lookup_refusal<'a>(book: &'a [u8], label: &'a [u8]) -> u8
 
 // Looks a label up in a book: any bytes.
 pub fn lookup<'a>(book: &'a [u8], label: &'a [u8]) -> LookedUp
-    ensures { (result ≡ lookupOf book.now label.now)
-        × (refusalOf result.answer ≡ lookupRefusal book.now label.now) }
+    ensures { (result ≡ lookup_of book.now label.now)
+        × (refusal_of result.answer ≡ lookup_refusal book.now label.now) }
 {
     let refused = lookup_refusal(book, label);
     if refused != 0 {

@@ -6,8 +6,8 @@
 #![tactic(auto)]
 
 ghost use Rattle.std.specs.Prelude.{◌≡◌, ◌+◌, ◌*◌, ◌≤◌, length};
-ghost use Rattle.book_form.specs.Book.{keyOf, frontIn, tableIn, fieldsIn};
-ghost use Rattle.book_reader.specs.Reader.{offsetRefusal, offsetsRefusal, frontRefusal, bookRefusal, refusalOf, readingOf};
+ghost use Rattle.book_form.specs.Book.{key_of, front_in, table_in, fields_in};
+ghost use Rattle.book_reader.specs.Reader.{offset_refusal, offsets_refusal, front_refusal, book_refusal, refusal_of, reading_of};
 
 use book_form::{
     Front, book_length, labels_refusal, of_cards, offset_of, table_length, values_refusal,
@@ -25,7 +25,7 @@ pub enum Reading {
 
 // The count, q, n and m of a book.
 pub fn front_of(bytes: &[u8]) -> Front
-    ensures { result ≡ frontIn bytes.now }
+    ensures { result ≡ front_in bytes.now }
 {
     Front {
         count: number(bytes),
@@ -37,14 +37,14 @@ pub fn front_of(bytes: &[u8]) -> Front
 
 // The table of contents, as much as there is of it.
 pub fn table_of(bytes: &[u8]) -> &[u8]
-    ensures { result.now ≡ tableIn bytes.now }
+    ensures { result.now ≡ table_in bytes.now }
 {
     part(bytes, 7, table_length(number(bytes)))
 }
 
 // What stands behind the table: the keys.
 pub fn keys_of(bytes: &[u8]) -> &[u8]
-    ensures { result.now ≡ (fieldsIn bytes.now).keys }
+    ensures { result.now ≡ (fields_in bytes.now).keys }
 {
     let at = 7 + table_length(number(bytes));
     part(bytes, at, bytes.len())
@@ -52,7 +52,7 @@ pub fn keys_of(bytes: &[u8]) -> &[u8]
 
 // The key of card i, counted from 0.
 pub fn key_at(bytes: &[u8], i: u32) -> &[u8]
-    ensures { result.now ≡ keyOf (frontIn bytes.now) (fieldsIn bytes.now).keys i }
+    ensures { result.now ≡ key_of (front_in bytes.now) (fields_in bytes.now).keys i }
 {
     let m = front_of(bytes).m;
     part(keys_of(bytes), of_cards(i, m), m as usize)
@@ -61,7 +61,7 @@ pub fn key_at(bytes: &[u8], i: u32) -> &[u8]
 // The refusal of card i's offset.
 fn offset_refusal(table: &[u8], h: Front, i: u32) -> u8
     requires { i * 14 + 14 ≤ length table.now }
-    ensures { result ≡ offsetRefusal h table.now i }
+    ensures { result ≡ offset_refusal h table.now i }
 {
     let at = of_cards(i, 14);
     let entry = &table[at..at + 14];
@@ -72,7 +72,7 @@ fn offset_refusal(table: &[u8], h: Front, i: u32) -> u8
 // The refusal of the offsets of all cards; it ends at the first.
 fn offsets_refusal(table: &[u8], h: Front) -> u8
     requires { h.count * 14 ≤ length table.now }
-    ensures { result ≡ offsetsRefusal h table.now }
+    ensures { result ≡ offsets_refusal h table.now }
 {
     let count = h.count;
     // the cards that are not looked at yet
@@ -89,7 +89,7 @@ fn offsets_refusal(table: &[u8], h: Front) -> u8
 
 // The refusal of what stands before the table.
 fn front_refusal(h: Front, length: usize) -> u8
-    ensures { result ≡ frontRefusal h length }
+    ensures { result ≡ front_refusal h length }
 {
     let size = unless(7 <= length, 6);
     let values = values_refusal(h);
@@ -99,7 +99,7 @@ fn front_refusal(h: Front, length: usize) -> u8
 
 // The refusal of a book's bytes, 0 for none; it ends at the first.
 fn book_refusal(bytes: &[u8]) -> u8
-    ensures { result ≡ bookRefusal bytes.now }
+    ensures { result ≡ book_refusal bytes.now }
 {
     let h = front_of(bytes);
     let in_front = front_refusal(h, bytes.len());
@@ -119,7 +119,7 @@ fn book_refusal(bytes: &[u8]) -> u8
 
 // Reads a book: any bytes.
 pub fn read(bytes: &[u8]) -> Reading
-    ensures { (result ≡ readingOf bytes.now) × (refusalOf result ≡ bookRefusal bytes.now) }
+    ensures { (result ≡ reading_of bytes.now) × (refusal_of result ≡ book_refusal bytes.now) }
 {
     let refused = book_refusal(bytes);
     if refused == 0 {
@@ -131,7 +131,7 @@ pub fn read(bytes: &[u8]) -> Reading
 
 // The number of the refusal, 0 for none.
 pub fn refusal_of(reading: Reading) -> u8
-    ensures { result ≡ refusalOf reading }
+    ensures { result ≡ refusal_of reading }
 {
     match reading {
         Reading::Good(_) => 0,

@@ -6,95 +6,95 @@ use mathlib.Core.List.{List}
 use native.Mathlib.Omega.{arith}
 use lib.ListN.{length}
 use borrow.Author.Tests.{eq-eqb}
-use Rattle.refusal.proofs.Refusals.{first-zero, later-zero, test-holds, equal-holds, both-zero, unless-holds}
-use Rattle.field.specs.Vector.{allBelow}
-use Rattle.field.proofs.Elements.{all-below-at, at-all-below}
-use Rattle.system.proofs.SystemLayout.{sizes, sizes-true}
-use Rattle.book_form.specs.Book.{bookLength, labelOf, Fields, written, frontIn, fieldsIn, Valid, Bytes}
-use Rattle.book_form.specs.Labels.{labelAt}
-use Rattle.book_form.proofs.BookLayout.{front-written, fields-written, written-fields}
-use Rattle.book_form.proofs.RightValues.{few-cards, right-sizes, right-values}
-use Rattle.book_form.proofs.Rising.{rising, none-refused}
-use Rattle.book_reader.specs.Reader.{bookRefusal, readingOf}
+use Rattle.refusal.proofs.Refusals.{first_zero, later_zero, test_holds, equal_holds, both_zero, unless_holds}
+use Rattle.field.specs.Vector.{all_below}
+use Rattle.field.proofs.Elements.{all_below_at, at_all_below}
+use Rattle.system.proofs.SystemLayout.{sizes, sizes_true}
+use Rattle.book_form.specs.Book.{book_length, label_of, Fields, written, front_in, fields_in, Valid, Bytes}
+use Rattle.book_form.specs.Labels.{label_at}
+use Rattle.book_form.proofs.BookLayout.{front_written, fields_written, written_fields}
+use Rattle.book_form.proofs.RightValues.{few_cards, right_sizes, right_values}
+use Rattle.book_form.proofs.Rising.{rising, none_refused}
+use Rattle.book_reader.specs.Reader.{book_refusal, reading_of}
 use Rattle.book_reader.specs.declared.Reading.TheVariants.{Good}
-use Rattle.book_reader.proofs.Readings.{reading-good}
-use Rattle.book_reader.proofs.WellFormed.{accepted, valid-fields, written-accepted}
-use Rattle.book_writer.specs.Writer.{lengthsRefusal, writeRefusal}
+use Rattle.book_reader.proofs.Readings.{reading_good}
+use Rattle.book_reader.proofs.WellFormed.{accepted, valid_fields, written_accepted}
+use Rattle.book_writer.specs.Writer.{lengths_refusal, write_refusal}
 
 -- ---- what the writer takes
 
 -- labels that stand alone are those that are looked at
-same-labels : (labels : List ℕ) → labelAt 10 labels ≡ labelOf labels
-unfolding labelAt labelOf
-same-labels labels = refl
+same_labels : (labels : List ℕ) → label_at 10 labels ≡ label_of labels
+unfolding label_at label_of
+same_labels labels = refl
 
 pub record Taken (f : Fields) (out : ℕ) : Type 0 where
   pub valid : Valid f
-  pub exact : out ≡ bookLength f.front
+  pub exact : out ≡ book_length f.front
 
-pub taken : (f : Fields) (out : ℕ) → writeRefusal f out ≡ 0 → Taken f out
-unfolding writeRefusal lengthsRefusal
+pub taken : (f : Fields) (out : ℕ) → write_refusal f out ≡ 0 → Taken f out
+unfolding write_refusal lengths_refusal
 taken f out none =
     let h = f.front in
-    let values = first-zero _ _ none in
-    let numbers = first-zero _ _ values in
-    let after-numbers = later-zero _ _ values in
-    let after-labels = later-zero _ _ after-numbers in
-    let after-lengths = later-zero _ _ none in
-    let s = sizes h.q h.n h.m (right-sizes h numbers) in
-    let r = rising 10 h.count f.labels (first-zero _ _ after-lengths) in
+    let values = first_zero _ _ none in
+    let numbers = first_zero _ _ values in
+    let after_numbers = later_zero _ _ values in
+    let after_labels = later_zero _ _ after_numbers in
+    let after_lengths = later_zero _ _ none in
+    let s = sizes h.q h.n h.m (right_sizes h numbers) in
+    let r = rising 10 h.count f.labels (first_zero _ _ after_lengths) in
     record {
       valid =
           record {
-            count-value = few-cards h numbers;
-            q-value = s.is-field;
-            n-value = (s.n-low, s.n-high);
-            m-value = (s.m-low, s.m-high);
-            labels-length = equal-holds (length f.labels) (h.count * 10) 2 tt (first-zero _ _ after-numbers);
-            keys-length = equal-holds (length f.keys) (h.count * h.m) 2 tt (first-zero _ _ after-labels);
-            each-label = rw (sym (same-labels f.labels)) r.each;
-            rising = rw (sym (same-labels f.labels)) r.next;
-            key-elements = all-below-at h.q f.keys (test-holds (allBelow h.q f.keys) 3 tt (later-zero _ _ after-lengths));
+            count_value = few_cards h numbers;
+            q_value = s.q_is_field;
+            n_value = (s.n_low, s.n_high);
+            m_value = (s.m_low, s.m_high);
+            labels_length = equal_holds (length f.labels) (h.count * 10) 2 tt (first_zero _ _ after_numbers);
+            keys_length = equal_holds (length f.keys) (h.count * h.m) 2 tt (first_zero _ _ after_labels);
+            each_label = rw (sym (same_labels f.labels)) r.each;
+            rising = rw (sym (same_labels f.labels)) r.next;
+            key_elements = all_below_at h.q f.keys (test_holds (all_below h.q f.keys) 3 tt (later_zero _ _ after_lengths));
           };
-      exact = equal-holds out (bookLength h) 2 tt (later-zero _ _ after-labels);
+      exact = equal_holds out (book_length h) 2 tt (later_zero _ _ after_labels);
     }
 
-valid-taken : (f : Fields) → Valid f → writeRefusal f (bookLength f.front) ≡ 0
-unfolding writeRefusal lengthsRefusal
-valid-taken f v =
+valid_taken : (f : Fields) → Valid f → write_refusal f (book_length f.front) ≡ 0
+unfolding write_refusal lengths_refusal
+valid_taken f v =
     let h = f.front in
-    both-zero _ _
-    (both-zero _ _ (right-values h v.count-value (sizes-true h.q h.n h.m v.q-value v.n-value v.m-value))
-    (both-zero _ _ (unless-holds _ 2 (eq-eqb (length f.labels) (h.count * 10) v.labels-length))
-    (both-zero _ _ (unless-holds _ 2 (eq-eqb (length f.keys) (h.count * h.m) v.keys-length)) (unless-holds _ 2 (eq-eqb (bookLength h) (bookLength h) refl)))))
-    (both-zero _ _ (none-refused 10 h.count f.labels (record { each = rw (same-labels f.labels) v.each-label; next = rw (same-labels f.labels) v.rising }))
-    (unless-holds _ 3 (at-all-below h.q f.keys v.key-elements)))
+    both_zero _ _
+    (both_zero _ _ (right_values h v.count_value (sizes_true h.q h.n h.m v.q_value v.n_value v.m_value))
+    (both_zero _ _ (unless_holds _ 2 (eq-eqb (length f.labels) (h.count * 10) v.labels_length))
+    (both_zero _ _ (unless_holds _ 2 (eq-eqb (length f.keys) (h.count * h.m) v.keys_length)) (unless_holds _ 2 (eq-eqb (book_length h) (book_length h) refl)))))
+    (both_zero _ _ (none_refused 10 h.count f.labels (record { each = rw (same_labels f.labels) v.each_label; next = rw (same_labels f.labels) v.rising }))
+    (unless_holds _ 3 (at_all_below h.q f.keys v.key_elements)))
 
-whole-fields : (b : List ℕ) → length b ≡ bookLength (frontIn b) → length b ≡ bookLength (fieldsIn b).front
-unfolding fieldsIn
-whole-fields b whole = whole
+whole_fields : (b : List ℕ) → length b ≡ book_length (front_in b) → length b ≡ book_length (fields_in b).front
+unfolding fields_in
+whole_fields b whole = whole
 
 -- ---- the claims
 
 -- the writer takes exactly the fields of a well-formed book, with an output of its length
-pub write-takes : (f : Fields) (out : ℕ) → (writeRefusal f out ≡ 0) ↔ (Valid f × (out ≡ bookLength f.front))
-write-takes f out = (
+pub write_takes : (f : Fields) (out : ℕ) → (write_refusal f out ≡ 0) ↔ (Valid f × (out ≡ book_length f.front))
+write_takes f out = (
   λ none. let t = taken f out none in (t.valid, t.exact),
-  λ k. ap (writeRefusal f) k.1 ∙ valid-taken f k.0,
+  λ k. ap (write_refusal f) k.1 ∙ valid_taken f k.0,
 )
 
 -- "reading what the writer wrote gives the fields back"
-pub read-written : (f : Fields) (out : ℕ) → writeRefusal f out ≡ 0 → (readingOf (written f) ≡ Good f.front) × (fieldsIn (written f) ≡ f)
-read-written f out none =
+pub read_written : (f : Fields) (out : ℕ) → write_refusal f out ≡ 0 → (reading_of (written f) ≡ Good f.front) × (fields_in (written f) ≡ f)
+read_written f out none =
     let v = (taken f out none).valid in
-    let few = v.count-value in
+    let few = v.count_value in
     let small : f.front.count < 4294967296 = omega (arith, few) in (
-      reading-good (written f) (written-accepted f v) ∙ ap Good (front-written f v.labels-length small),
-      fields-written f v.labels-length small,
+      reading_good (written f) (written_accepted f v) ∙ ap Good (front_written f v.labels_length small),
+      fields_written f v.labels_length small,
     )
 
 -- "Reading a book and writing it again gives the same bytes."
-pub written-read : (b : List ℕ) → Bytes b → bookRefusal b ≡ 0 → (writeRefusal (fieldsIn b) (length b) ≡ 0) × (written (fieldsIn b) ≡ b)
-written-read b bytes none =
-    let k = (accepted b none).laid-out in
-    (ap (writeRefusal (fieldsIn b)) (whole-fields b k.whole) ∙ valid-taken (fieldsIn b) (valid-fields b none), written-fields b k bytes)
+pub written_read : (b : List ℕ) → Bytes b → book_refusal b ≡ 0 → (write_refusal (fields_in b) (length b) ≡ 0) × (written (fields_in b) ≡ b)
+written_read b bytes none =
+    let k = (accepted b none).laid_out in
+    (ap (write_refusal (fields_in b)) (whole_fields b k.whole) ∙ valid_taken (fields_in b) (valid_fields b none), written_fields b k bytes)

@@ -8,8 +8,8 @@
 ghost use Rattle.std.specs.Prelude.{◌≡◌, ◌+◌, ◌*◌, ◌≤◌, ◌<◌, ◌++◌, length, take};
 ghost use Rattle.slices.specs.Slices.{placed, joined};
 ghost use Rattle.refusal.specs.Refusal.{kept};
-ghost use Rattle.book_form.specs.Book.{bookLength, entry, written};
-ghost use Rattle.book_writer.specs.Writer.{frontOf, fieldsOf, lengthsRefusal, writeRefusal};
+ghost use Rattle.book_form.specs.Book.{book_length, entry, written};
+ghost use Rattle.book_writer.specs.Writer.{front_of, fields_of, lengths_refusal, write_refusal};
 
 use book_form::{
     Front, book_length, label_at, labels_refusal, of_cards, offset_of, values_refusal,
@@ -20,7 +20,7 @@ use slices::{put, word};
 
 // The refusal of all that the values and the lengths decide.
 fn lengths_refusal(h: Front, labels: usize, keys: usize, out: usize) -> u8
-    ensures { result ≡ lengthsRefusal h labels keys out }
+    ensures { result ≡ lengths_refusal h labels keys out }
 {
     let values = values_refusal(h);
     let of_labels = unless(labels == of_cards(h.count, 10), 2);
@@ -31,7 +31,7 @@ fn lengths_refusal(h: Front, labels: usize, keys: usize, out: usize) -> u8
 
 // The refusal of a call, its output's length among its arguments; it ends at the first.
 fn write_refusal<'a>(h: Front, labels: &'a [u8], keys: &'a [u8], out: usize) -> u8
-    ensures { result ≡ writeRefusal (fieldsOf h labels.now keys.now) out }
+    ensures { result ≡ write_refusal (fields_of h labels.now keys.now) out }
 {
     let lengths = lengths_refusal(h, labels.len(), keys.len(), out);
     if lengths != 0 {
@@ -71,8 +71,8 @@ fn put_table(out: &mut [u8], h: Front, labels: &[u8])
 
 // The first seven bytes, the table and the keys, one behind the other.
 fn put_book<'a>(h: Front, labels: &'a [u8], keys: &'a [u8], out: &mut [u8])
-    requires { (length labels.now ≡ h.count * 10) × (length keys.now ≡ h.count * h.m) × (length out.old ≡ bookLength h) }
-    ensures { out.new ≡ written (fieldsOf h labels.now keys.now) }
+    requires { (length labels.now ≡ h.count * 10) × (length keys.now ≡ h.count * h.m) × (length out.old ≡ book_length h) }
+    ensures { out.new ≡ written (fields_of h labels.now keys.now) }
 {
     let count = word(h.count as usize);
     let sizes = [h.q, h.n, h.m];
@@ -92,8 +92,8 @@ pub fn write<'a>(
     keys: &'a [u8],
     out: &mut [u8],
 ) -> u8
-    ensures { (result ≡ writeRefusal (fieldsOf (frontOf count q n m) labels.now keys.now) (length out.old))
-        × (out.new ≡ kept result out.old (written (fieldsOf (frontOf count q n m) labels.now keys.now))) }
+    ensures { (result ≡ write_refusal (fields_of (front_of count q n m) labels.now keys.now) (length out.old))
+        × (out.new ≡ kept result out.old (written (fields_of (front_of count q n m) labels.now keys.now))) }
 {
     let front = Front { count, q, n, m };
     let refused = write_refusal(front, labels, keys, out.len());

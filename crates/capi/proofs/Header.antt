@@ -11,17 +11,17 @@ use borrow.Author.Tests.{eq-eqb}
 use Rattle.slices.specs.Slices.{◌!◌}
 use Rattle.slices.proofs.Booleans.{either}
 use Rattle.scheme.specs.declared.Scheme.{Scheme}
-use Rattle.comparable.specs.Comparable.{comparableRefusal, rejectionOf}
-use Rattle.full_set.specs.FullSet.{firstFull}
-use Rattle.clash.specs.Clash.{firstClash}
-use Rattle.record_form.specs.Record.{headerIn}
+use Rattle.comparable.specs.Comparable.{comparable_refusal, rejection_of}
+use Rattle.full_set.specs.FullSet.{first_full}
+use Rattle.clash.specs.Clash.{first_clash}
+use Rattle.record_form.specs.Record.{header_in}
 use Rattle.text.specs.Text.{numbered}
-use Rattle.report_lines.specs.ReportLines.{verdictStart, refusedWord, verdictLine, refusedLine}
-use Rattle.reporting.specs.Report.{systemPart, recordPart, reportRefusal, roundLines, judgedText, reportText}
-use Rattle.auditing.specs.Outcome.{Outcome, secret, clash, refused, clashed, answerOf}
-use Rattle.auditing.specs.Audit.{clashAt, secretAt, findingAt, searchOf, auditOf}
-use Rattle.finding_layout.specs.FindingLayout.{kindBytes, findingBytes}
-use Rattle.capi.specs.Layouts.{auditNumber}
+use Rattle.report_lines.specs.ReportLines.{verdict_start, refused_word, verdict_line, refused_line}
+use Rattle.reporting.specs.Report.{system_part, record_part, report_refusal, round_lines, judged_text, report_text}
+use Rattle.auditing.specs.Outcome.{Outcome, secret, clash, refused, clashed, answer_of}
+use Rattle.auditing.specs.Audit.{clash_at, secret_at, finding_at, search_of, audit_of}
+use Rattle.finding_layout.specs.FindingLayout.{kind_bytes, finding_bytes}
+use Rattle.capi.specs.Layouts.{audit_number}
 
 -- ---- an audit that answers 0 has a finding
 
@@ -31,12 +31,12 @@ Numbered (secret s) = Unit {0}
 Numbered (clash k x y) = Unit {0}
 Numbered (refused number whose round) = number ≡ 0 → ⊥
 
-unless-refused : (early : ℕ) (x : Outcome) → Numbered x → Numbered (cond (eqb early 0) x (refused early 0 0))
+unless_refused : (early : ℕ) (x : Outcome) → Numbered x → Numbered (cond (eqb early 0) x (refused early 0 0))
 unfolding Numbered
-unless-refused early x of-x = go (eqb early 0) refl
+unless_refused early x of_x = go (eqb early 0) refl
   where
     go : (t : Bool) → eqb early 0 ≡ t → Numbered (cond t x (refused early 0 0))
-    go true e = of-x
+    go true e = of_x
     go false e = λ none. absurd (true≢false (sym (eq-eqb early 0 none) ∙ e))
 
 -- 8 and 9
@@ -44,59 +44,59 @@ above : (number whose round : ℕ) → 0 < number → Numbered (refused number w
 unfolding Numbered
 above number whose round positive = λ none. absurd (omega (arith, positive, none))
 
-of-secret : (scheme : Scheme) (system a b c : List ℕ) (r : ℕ) → Numbered (secretAt scheme system a b c r)
-unfolding Numbered secretAt
-of-secret scheme system a b c r = tt
+of_secret : (scheme : Scheme) (system a b c : List ℕ) (r : ℕ) → Numbered (secret_at scheme system a b c r)
+unfolding Numbered secret_at
+of_secret scheme system a b c r = tt
 
-of-clash : (scheme : Scheme) (system a b c d : List ℕ) (r k : ℕ) → Numbered (clashAt scheme system a b c d r k)
-unfolding Numbered clashAt
-of-clash scheme system a b c d r k = tt
+of_clash : (scheme : Scheme) (system a b c d : List ℕ) (r k : ℕ) → Numbered (clash_at scheme system a b c d r k)
+unfolding Numbered clash_at
+of_clash scheme system a b c d r k = tt
 
-finding-numbered : (scheme : Scheme) (system a b c d : List ℕ) (r : ℕ) → Numbered (findingAt scheme system a b c d r)
-unfolding findingAt
-finding-numbered scheme system a b c d r = either Numbered (eqb (firstClash scheme system a b c d r) 0) _ _ (of-secret scheme system a b c r) (of-clash scheme system a b c d r _)
+finding_numbered : (scheme : Scheme) (system a b c d : List ℕ) (r : ℕ) → Numbered (finding_at scheme system a b c d r)
+unfolding finding_at
+finding_numbered scheme system a b c d r = either Numbered (eqb (first_clash scheme system a b c d r) 0) _ _ (of_secret scheme system a b c r) (of_clash scheme system a b c d r _)
 
-search-numbered : (scheme : Scheme) (system a b c d : List ℕ) → Numbered (searchOf scheme system a b c d)
-unfolding searchOf
-search-numbered scheme system a b c d =
-    either Numbered (eqb (firstFull scheme a b c d) 0) _ _ (above 9 0 0 (omega arith)) (finding-numbered scheme system a b c d (firstFull scheme a b c d - 1))
+search_numbered : (scheme : Scheme) (system a b c d : List ℕ) → Numbered (search_of scheme system a b c d)
+unfolding search_of
+search_numbered scheme system a b c d =
+    either Numbered (eqb (first_full scheme a b c d) 0) _ _ (above 9 0 0 (omega arith)) (finding_numbered scheme system a b c d (first_full scheme a b c d - 1))
 
-audit-numbered : (scheme : Scheme) (system a b c d : List ℕ) → Numbered (auditOf scheme system a b c d)
-unfolding auditOf
-audit-numbered scheme system a b c d =
-    unless-refused (comparableRefusal scheme system a b c d) _
-    (either Numbered (eqb (rejectionOf scheme system a b c d).whose 0) _ _ (search-numbered scheme system a b c d) (above 8 _ _ (omega arith)))
+audit_numbered : (scheme : Scheme) (system a b c d : List ℕ) → Numbered (audit_of scheme system a b c d)
+unfolding audit_of
+audit_numbered scheme system a b c d =
+    unless_refused (comparable_refusal scheme system a b c d) _
+    (either Numbered (eqb (rejection_of scheme system a b c d).whose 0) _ _ (search_numbered scheme system a b c d) (above 8 _ _ (omega arith)))
 
-told : (o : Outcome) → Numbered o → auditNumber (answerOf o).finding ≡ 0 → (findingBytes (answerOf o) ! 0 ≡ 1) ⊎ (findingBytes (answerOf o) ! 0 ≡ 2)
-unfolding Numbered auditNumber answerOf clashed findingBytes kindBytes
+told : (o : Outcome) → Numbered o → audit_number (answer_of o).finding ≡ 0 → (finding_bytes (answer_of o) ! 0 ≡ 1) ⊎ (finding_bytes (answer_of o) ! 0 ≡ 2)
+unfolding Numbered audit_number answer_of clashed finding_bytes kind_bytes
 told (secret s) numbered none = inl refl
 told (clash k x y) numbered none = inr refl
 told (refused number whose round) numbered none = absurd (numbered (omega (arith, none)))
 
 -- canvasfox.h: "Byte 0: 1 for a secret, 2 for a clash.": so it is wherever an audit answers 0
 pub found : (scheme : Scheme) (system a b c d : List ℕ) →
-    let audited = answerOf (auditOf scheme system a b c d) in
-    auditNumber audited.finding ≡ 0 → (findingBytes audited ! 0 ≡ 1) ⊎ (findingBytes audited ! 0 ≡ 2)
-found scheme system a b c d = told (auditOf scheme system a b c d) (audit-numbered scheme system a b c d)
+    let audited = answer_of (audit_of scheme system a b c d) in
+    audit_number audited.finding ≡ 0 → (finding_bytes audited ! 0 ≡ 1) ⊎ (finding_bytes audited ! 0 ≡ 2)
+found scheme system a b c d = told (audit_of scheme system a b c d) (audit_numbered scheme system a b c d)
 
 -- ---- a report is never empty
 
-some-behind : (l r : List ℕ) (k : ℕ) → length (l ++ (k ∷ r)) ≡ 0 → ⊥
-some-behind l r k none = let long = sym (length-append l (k ∷ r)) ∙ none in absurd (omega (arith, long))
+some_behind : (l r : List ℕ) (k : ℕ) → length (l ++ (k ∷ r)) ≡ 0 → ⊥
+some_behind l r k none = let long = sym (length-append l (k ∷ r)) ∙ none in absurd (omega (arith, long))
 
-some-judged : (system b : List ℕ) → length (judgedText system b) ≡ 0 → ⊥
-unfolding judgedText verdictLine verdictStart
-some-judged system b none = some-behind (roundLines system b (headerIn b).rounds) _ 118 none
+some_judged : (system b : List ℕ) → length (judged_text system b) ≡ 0 → ⊥
+unfolding judged_text verdict_line verdict_start
+some_judged system b none = some_behind (round_lines system b (header_in b).rounds) _ 118 none
 
-some-refused : (k : ℕ) → length (refusedLine k) ≡ 0 → ⊥
-unfolding refusedLine numbered refusedWord
-some-refused k none = absurd (omega (arith, none))
+some_refused : (k : ℕ) → length (refused_line k) ≡ 0 → ⊥
+unfolding refused_line numbered refused_word
+some_refused k none = absurd (omega (arith, none))
 
 -- canvasfox.h: "The answer is the text's length, which is never 0"
-pub some-text : (input : List ℕ) → length (reportText input) ≡ 0 → ⊥
-unfolding reportText
-some-text input = go (eqb (reportRefusal input) 0)
+pub some_text : (input : List ℕ) → length (report_text input) ≡ 0 → ⊥
+unfolding report_text
+some_text input = go (eqb (report_refusal input) 0)
   where
-    go : (t : Bool) → length (cond t (judgedText (systemPart input) (recordPart input)) (refusedLine (reportRefusal input))) ≡ 0 → ⊥
-    go true none = some-judged (systemPart input) (recordPart input) none
-    go false none = some-refused (reportRefusal input) none
+    go : (t : Bool) → length (cond t (judged_text (system_part input) (record_part input)) (refused_line (report_refusal input))) ≡ 0 → ⊥
+    go true none = some_judged (system_part input) (record_part input) none
+    go false none = some_refused (report_refusal input) none

@@ -9,20 +9,20 @@ mod layouts;
 ghost use Rattle.std.specs.Prelude.{◌≡◌, ◌≤◌, length, take};
 ghost use Rattle.refusal.specs.Refusal.{kept};
 ghost use Rattle.sha256.specs.Sha256.{sha256};
-ghost use Rattle.sha256.specs.Digest.{digestRefusal};
-ghost use Rattle.system.specs.System.{mOf, systemRefusal, F, G};
-ghost use Rattle.evaluation.specs.Entry.{evaluateRefusal, polarRefusal};
-ghost use Rattle.simulator.specs.Simulator.{simulateRefusal, simulatedCommitments, simulatedReply};
-ghost use Rattle.record_form.specs.Record.{layoutOf, headerIn};
-ghost use Rattle.reporting.specs.Report.{reportLength, reportOut};
-ghost use Rattle.auditing.specs.Outcome.{answerOf};
-ghost use Rattle.auditing.specs.Audit.{auditThree, auditFive};
-ghost use Rattle.finding_layout.specs.FindingLayout.{findingBytes};
+ghost use Rattle.sha256.specs.Digest.{digest_refusal};
+ghost use Rattle.system.specs.System.{m_of, system_refusal, F, G};
+ghost use Rattle.evaluation.specs.Entry.{evaluate_refusal, polar_refusal};
+ghost use Rattle.simulator.specs.Simulator.{simulate_refusal, simulated_commitments, simulated_reply};
+ghost use Rattle.record_form.specs.Record.{layout_of, header_in};
+ghost use Rattle.reporting.specs.Report.{report_length, report_out};
+ghost use Rattle.auditing.specs.Outcome.{answer_of};
+ghost use Rattle.auditing.specs.Audit.{audit_three, audit_five};
+ghost use Rattle.finding_layout.specs.FindingLayout.{finding_bytes};
 ghost use Rattle.book_form.specs.Book.{written};
-ghost use Rattle.book_writer.specs.Writer.{frontOf, fieldsOf, writeRefusal};
-ghost use Rattle.book_lookup.specs.Lookup.{lookupOf};
-ghost use Rattle.capi_books.specs.Numbers.{bookFieldsRefusal, lookupNumber};
-ghost use Rattle.capi.specs.Layouts.{fieldsBytes, fieldsRefusal, auditRefusal};
+ghost use Rattle.book_writer.specs.Writer.{front_of, fields_of, write_refusal};
+ghost use Rattle.book_lookup.specs.Lookup.{lookup_of};
+ghost use Rattle.capi_books.specs.Numbers.{book_fields_refusal, lookup_number};
+ghost use Rattle.capi.specs.Layouts.{fields_bytes, fields_refusal, audit_refusal};
 
 use crate::layouts::{answer, length_refusal, write_fields};
 use auditing::{audit_five, audit_three};
@@ -32,7 +32,7 @@ use refusal::unless;
 // The digest of a message.
 #[unsafe(no_mangle)]
 pub extern "C" fn canvasfox_sha256(message: &[u8], digest: &mut [u8]) -> u8
-    ensures { (result ≡ digestRefusal (length message.now) (length digest.old))
+    ensures { (result ≡ digest_refusal (length message.now) (length digest.old))
         × (digest.new ≡ kept result digest.old (sha256 message.now)) }
 {
     sha256::digest(message, digest)
@@ -41,7 +41,7 @@ pub extern "C" fn canvasfox_sha256(message: &[u8], digest: &mut [u8]) -> u8
 // Whether a system is well-formed.
 #[unsafe(no_mangle)]
 pub extern "C" fn canvasfox_system_check(system: &[u8]) -> u8
-    ensures { result ≡ systemRefusal system.now }
+    ensures { result ≡ system_refusal system.now }
 {
     system::check(system)
 }
@@ -49,8 +49,8 @@ pub extern "C" fn canvasfox_system_check(system: &[u8]) -> u8
 // F(x).
 #[unsafe(no_mangle)]
 pub extern "C" fn canvasfox_evaluate<'a>(system: &'a [u8], x: &'a [u8], out: &mut [u8]) -> u8
-    ensures { (result ≡ evaluateRefusal system.now x.now (length out.old))
-        × (out.new ≡ kept result out.old (take (mOf system.now) (F system.now x.now))) }
+    ensures { (result ≡ evaluate_refusal system.now x.now (length out.old))
+        × (out.new ≡ kept result out.old (take (m_of system.now) (F system.now x.now))) }
 {
     evaluation::evaluate(system, x, out)
 }
@@ -63,8 +63,8 @@ pub extern "C" fn canvasfox_polar<'a>(
     y: &'a [u8],
     out: &mut [u8],
 ) -> u8
-    ensures { (result ≡ polarRefusal system.now x.now y.now (length out.old))
-        × (out.new ≡ kept result out.old (take (mOf system.now) (G system.now x.now y.now))) }
+    ensures { (result ≡ polar_refusal system.now x.now y.now (length out.old))
+        × (out.new ≡ kept result out.old (take (m_of system.now) (G system.now x.now y.now))) }
 {
     evaluation::polar(system, x, y, out)
 }
@@ -80,11 +80,11 @@ pub extern "C" fn canvasfox_simulate<'a>(
     commitments: &mut [u8],
     reply: &mut [u8],
 ) -> u8
-    ensures { (result ≡ simulateRefusal system.now v.now unanswered challenge lent.now
+    ensures { (result ≡ simulate_refusal system.now v.now unanswered challenge lent.now
         (length commitments.old) (length reply.old))
         × (commitments.new ≡ kept result commitments.old
-        (simulatedCommitments system.now v.now unanswered lent.now))
-        × (reply.new ≡ kept result reply.old (simulatedReply system.now v.now unanswered challenge lent.now)) }
+        (simulated_commitments system.now v.now unanswered lent.now))
+        × (reply.new ≡ kept result reply.old (simulated_reply system.now v.now unanswered challenge lent.now)) }
 {
     simulator::simulate(system, v, unanswered, challenge, lent, commitments, reply)
 }
@@ -92,8 +92,8 @@ pub extern "C" fn canvasfox_simulate<'a>(
 // A record's header and where its bodies stand.
 #[unsafe(no_mangle)]
 pub extern "C" fn canvasfox_record_read(bytes: &[u8], fields: &mut [u8]) -> u8
-    ensures { (result ≡ fieldsRefusal bytes.now (length fields.old))
-        × (fields.new ≡ kept result fields.old (fieldsBytes (layoutOf (headerIn bytes.now)))) }
+    ensures { (result ≡ fields_refusal bytes.now (length fields.old))
+        × (fields.new ≡ kept result fields.old (fields_bytes (layout_of (header_in bytes.now)))) }
 {
     let of_length = unless(fields.len() == 30, 2);
     if of_length != 0 {
@@ -110,8 +110,8 @@ pub extern "C" fn canvasfox_record_read(bytes: &[u8], fields: &mut [u8]) -> u8
 // The text for a system and a record, to the front of 8,192 bytes; its length.
 #[unsafe(no_mangle)]
 pub extern "C" fn canvasfox_report(input: &[u8], text: &mut [u8]) -> usize
-    ensures { (result ≡ reportLength input.now (length text.old))
-        × (text.new ≡ reportOut input.now text.old)
+    ensures { (result ≡ report_length input.now (length text.old))
+        × (text.new ≡ report_out input.now text.old)
         × (result ≤ length text.old) }
 {
     reporting::report(input, text)
@@ -126,10 +126,10 @@ pub extern "C" fn canvasfox_audit_three<'a>(
     c: &'a [u8],
     finding: &mut [u8],
 ) -> u32
-    ensures { (result ≡ auditRefusal system.now (answerOf
-        (auditThree system.now a.now b.now c.now)).finding (length finding.old))
+    ensures { (result ≡ audit_refusal system.now (answer_of
+        (audit_three system.now a.now b.now c.now)).finding (length finding.old))
         × (finding.new ≡ kept result finding.old
-        (findingBytes (answerOf (auditThree system.now a.now b.now c.now)))) }
+        (finding_bytes (answer_of (audit_three system.now a.now b.now c.now)))) }
 {
     if finding.len() != 752 {
         return length_refusal(system);
@@ -147,10 +147,10 @@ pub extern "C" fn canvasfox_audit_five<'a>(
     d: &'a [u8],
     finding: &mut [u8],
 ) -> u32
-    ensures { (result ≡ auditRefusal system.now (answerOf
-        (auditFive system.now a.now b.now c.now d.now)).finding (length finding.old))
+    ensures { (result ≡ audit_refusal system.now (answer_of
+        (audit_five system.now a.now b.now c.now d.now)).finding (length finding.old))
         × (finding.new ≡ kept result finding.old
-        (findingBytes (answerOf (auditFive system.now a.now b.now c.now d.now)))) }
+        (finding_bytes (answer_of (audit_five system.now a.now b.now c.now d.now)))) }
 {
     if finding.len() != 752 {
         return length_refusal(system);
@@ -169,8 +169,8 @@ pub extern "C" fn canvasfox_book_write<'a>(
     keys: &'a [u8],
     book: &mut [u8],
 ) -> u8
-    ensures { (result ≡ writeRefusal (fieldsOf (frontOf count q n m) labels.now keys.now) (length book.old))
-        × (book.new ≡ kept result book.old (written (fieldsOf (frontOf count q n m) labels.now keys.now))) }
+    ensures { (result ≡ write_refusal (fields_of (front_of count q n m) labels.now keys.now) (length book.old))
+        × (book.new ≡ kept result book.old (written (fields_of (front_of count q n m) labels.now keys.now))) }
 {
     book_writer::write(count, q, n, m, labels, keys, book)
 }
@@ -178,7 +178,7 @@ pub extern "C" fn canvasfox_book_write<'a>(
 // A book's first seven bytes.
 #[unsafe(no_mangle)]
 pub extern "C" fn canvasfox_book_read(book: &[u8], fields: &mut [u8]) -> u8
-    ensures { (result ≡ bookFieldsRefusal book.now (length fields.old))
+    ensures { (result ≡ book_fields_refusal book.now (length fields.old))
         × (fields.new ≡ kept result fields.old (take 7 book.now)) }
 {
     capi_books::read_fields(book, fields)
@@ -187,8 +187,8 @@ pub extern "C" fn canvasfox_book_read(book: &[u8], fields: &mut [u8]) -> u8
 // The key of the card with this label.
 #[unsafe(no_mangle)]
 pub extern "C" fn canvasfox_book_lookup<'a>(book: &'a [u8], label: &'a [u8], key: &mut [u8]) -> u8
-    ensures { (result ≡ lookupNumber book.now label.now (length key.old))
-        × (key.new ≡ kept result key.old (lookupOf book.now label.now).key) }
+    ensures { (result ≡ lookup_number book.now label.now (length key.old))
+        × (key.new ≡ kept result key.old (lookup_of book.now label.now).key) }
 {
     capi_books::lookup_key(book, label, key)
 }

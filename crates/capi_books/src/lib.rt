@@ -6,8 +6,8 @@
 
 ghost use Rattle.std.specs.Prelude.{◌≡◌, length, take};
 ghost use Rattle.refusal.specs.Refusal.{kept};
-ghost use Rattle.book_lookup.specs.Lookup.{lookupOf};
-ghost use Rattle.capi_books.specs.Numbers.{bookFieldsRefusal, answerNumber, lookupNumber};
+ghost use Rattle.book_lookup.specs.Lookup.{lookup_of};
+ghost use Rattle.capi_books.specs.Numbers.{book_fields_refusal, answer_number, lookup_number};
 
 use book_lookup::{Answer, lookup};
 use book_reader::{read, refusal_of};
@@ -16,7 +16,7 @@ use slices::{part, put};
 
 // A book's first seven bytes.
 pub fn read_fields(book: &[u8], fields: &mut [u8]) -> u8
-    ensures { (result ≡ bookFieldsRefusal book.now (length fields.old))
+    ensures { (result ≡ book_fields_refusal book.now (length fields.old))
         × (fields.new ≡ kept result fields.old (take 7 book.now)) }
 {
     let of_length = unless(fields.len() == 7, 2);
@@ -33,7 +33,7 @@ pub fn read_fields(book: &[u8], fields: &mut [u8]) -> u8
 
 // An answer as one number.
 fn answer_number(answer: Answer) -> u8
-    ensures { result ≡ answerNumber answer }
+    ensures { result ≡ answer_number answer }
 {
     match answer {
         Answer::Found => 0,
@@ -44,8 +44,8 @@ fn answer_number(answer: Answer) -> u8
 
 // The key of the card with this label.
 pub fn lookup_key<'a>(book: &'a [u8], label: &'a [u8], key: &mut [u8]) -> u8
-    ensures { (result ≡ lookupNumber book.now label.now (length key.old))
-        × (key.new ≡ kept result key.old (lookupOf book.now label.now).key) }
+    ensures { (result ≡ lookup_number book.now label.now (length key.old))
+        × (key.new ≡ kept result key.old (lookup_of book.now label.now).key) }
 {
     let of_length = unless(key.len() == 96, 2);
     if of_length != 0 {

@@ -1,7 +1,7 @@
 // The card's reply to α.
 ghost use Rattle.std.specs.Prelude.{◌≡◌, length};
 ghost use Rattle.refusal.specs.Refusal.{kept};
-ghost use Rattle.card_state.specs.Card.{alphaRefusal, answeredCard, sentMiddle};
+ghost use Rattle.card_state.specs.Card.{alpha_refusal, answered_card, sent_middle};
 
 use card_state::{Card, CardAnswer, CardPhase, alpha_refusal, card_with, held_lent};
 use exchange::write_middle;
@@ -10,9 +10,9 @@ use slices::byte_at;
 
 // Five passes: writes t1 and e1 for α to `out`.
 pub fn answer_alpha(card: Card, system: &[u8], alpha: u8, out: &mut [u8]) -> CardAnswer
-    ensures { (result.refusal ≡ alphaRefusal card system.now alpha (length out.old))
-        × (result.card ≡ kept result.refusal card (answeredCard card))
-        × (out.new ≡ kept result.refusal out.old (sentMiddle card system.now alpha)) }
+    ensures { (result.refusal ≡ alpha_refusal card system.now alpha (length out.old))
+        × (result.card ≡ kept result.refusal card (answered_card card))
+        × (out.new ≡ kept result.refusal out.old (sent_middle card system.now alpha)) }
 {
     let refused = alpha_refusal(card, system, alpha, out.len());
     if refused != 0 {

@@ -1,10 +1,10 @@
 // The card's commitments of a round.
 ghost use Rattle.std.specs.Prelude.{◌≡◌, length};
 ghost use Rattle.refusal.specs.Refusal.{kept};
-ghost use Rattle.system.specs.System.{systemRefusal};
+ghost use Rattle.system.specs.System.{system_refusal};
 ghost use Rattle.scheme.specs.declared.Scheme.TheVariants.{ThreePass, FivePass};
-ghost use Rattle.scheme.specs.Scheme.{commitmentsLength};
-ghost use Rattle.card_state.specs.Card.{commitRefusal, committedCard, sentCommitments};
+ghost use Rattle.scheme.specs.Scheme.{commitments_length};
+ghost use Rattle.card_state.specs.Card.{commit_refusal, committed_card, sent_commitments};
 
 use card_state::{Card, CardAnswer, CardPhase, card_domain, card_with, commit_refusal};
 use exchange::{read_lent, write_five_commitments, write_three_commitments};
@@ -14,9 +14,9 @@ use slices::byte_at;
 
 // Three passes: writes the commitments, and keeps what is lent and e1.
 fn commit_three<'a>(card: Card, system: &'a [u8], lent: &'a [u8], out: &mut [u8]) -> Card
-    requires { (card.scheme ≡ ThreePass) × (systemRefusal system.now ≡ 0) × (length out.old ≡ commitmentsLength ThreePass) }
-    ensures { (result ≡ committedCard card system.now lent.now)
-        × (out.new ≡ sentCommitments card system.now lent.now) }
+    requires { (card.scheme ≡ ThreePass) × (system_refusal system.now ≡ 0) × (length out.old ≡ commitments_length ThreePass) }
+    ensures { (result ≡ committed_card card system.now lent.now)
+        × (out.new ≡ sent_commitments card system.now lent.now) }
 {
     let n = byte_at(system, 1);
     let m = byte_at(system, 2);
@@ -34,9 +34,9 @@ fn commit_three<'a>(card: Card, system: &'a [u8], lent: &'a [u8], out: &mut [u8]
 
 // Five passes: writes the commitments, and keeps what is lent.
 fn commit_five<'a>(card: Card, system: &'a [u8], lent: &'a [u8], out: &mut [u8]) -> Card
-    requires { (card.scheme ≡ FivePass) × (systemRefusal system.now ≡ 0) × (length out.old ≡ commitmentsLength FivePass) }
-    ensures { (result ≡ committedCard card system.now lent.now)
-        × (out.new ≡ sentCommitments card system.now lent.now) }
+    requires { (card.scheme ≡ FivePass) × (system_refusal system.now ≡ 0) × (length out.old ≡ commitments_length FivePass) }
+    ensures { (result ≡ committed_card card system.now lent.now)
+        × (out.new ≡ sent_commitments card system.now lent.now) }
 {
     let n = byte_at(system, 1);
     let m = byte_at(system, 2);
@@ -55,9 +55,9 @@ fn commit_five<'a>(card: Card, system: &'a [u8], lent: &'a [u8], out: &mut [u8])
 
 // Writes the commitments of a round to `out`, from what is lent for it.
 pub fn commit<'a>(card: Card, system: &'a [u8], lent: &'a [u8], out: &mut [u8]) -> CardAnswer
-    ensures { (result.refusal ≡ commitRefusal card system.now lent.now (length out.old))
-        × (result.card ≡ kept result.refusal card (committedCard card system.now lent.now))
-        × (out.new ≡ kept result.refusal out.old (sentCommitments card system.now lent.now)) }
+    ensures { (result.refusal ≡ commit_refusal card system.now lent.now (length out.old))
+        × (result.card ≡ kept result.refusal card (committed_card card system.now lent.now))
+        × (out.new ≡ kept result.refusal out.old (sent_commitments card system.now lent.now)) }
 {
     let refused = commit_refusal(card, system, lent, out.len());
     if refused != 0 {

@@ -1,7 +1,7 @@
 // The opening of a card's session.
 ghost use Rattle.std.specs.Prelude.{◌≡◌};
 ghost use Rattle.refusal.specs.Refusal.{kept};
-ghost use Rattle.card_state.specs.Card.{openRefusal, closedCard, openedCard};
+ghost use Rattle.card_state.specs.Card.{open_refusal, closed_card, opened_card};
 
 use card_state::{Card, CardAnswer, CardPhase, closed_card, no_rhos, open_refusal};
 use field::from_slice;
@@ -10,7 +10,7 @@ use slices::byte_at;
 
 // A session in its first round.
 fn opened_card<'a>(system: &'a [u8], scheme: u8, rounds: u8, s: &'a [u8]) -> Card
-    ensures { result ≡ openedCard system.now scheme rounds s.now }
+    ensures { result ≡ opened_card system.now scheme rounds s.now }
 {
     let passes = scheme_of(scheme);
     Card {
@@ -32,8 +32,8 @@ fn opened_card<'a>(system: &'a [u8], scheme: u8, rounds: u8, s: &'a [u8]) -> Car
 
 // Opens a session of so many rounds, for a card with the secret s and the key v = F(s).
 pub fn open<'a>(system: &'a [u8], scheme: u8, rounds: u8, v: &'a [u8], s: &'a [u8]) -> CardAnswer
-    ensures { (result.refusal ≡ openRefusal system.now scheme rounds v.now s.now)
-        × (result.card ≡ kept result.refusal closedCard (openedCard system.now scheme rounds s.now)) }
+    ensures { (result.refusal ≡ open_refusal system.now scheme rounds v.now s.now)
+        × (result.card ≡ kept result.refusal closed_card (opened_card system.now scheme rounds s.now)) }
 {
     let refused = open_refusal(system, scheme, rounds, v, s);
     if refused != 0 {

@@ -1,10 +1,10 @@
 // The card's reply to a challenge, with which its round ends.
 ghost use Rattle.std.specs.Prelude.{◌≡◌, true, length};
 ghost use Rattle.refusal.specs.Refusal.{kept};
-ghost use Rattle.system.specs.System.{areSizes};
-ghost use Rattle.scheme.specs.Scheme.{replyLength};
-ghost use Rattle.round.specs.Pieces.{vectorsOf};
-ghost use Rattle.card_state.specs.Card.{replyRefusal, repliedCard, heldVectors, sentReply};
+ghost use Rattle.system.specs.System.{are_sizes};
+ghost use Rattle.scheme.specs.Scheme.{reply_length};
+ghost use Rattle.round.specs.Pieces.{vectors_of};
+ghost use Rattle.card_state.specs.Card.{reply_refusal, replied_card, held_vectors, sent_reply};
 
 use card_state::{Card, CardAnswer, CardPhase, card_with, closed_card, no_lent, reply_refusal};
 use exchange::{write_reply_five, write_reply_three};
@@ -14,7 +14,7 @@ use session_state::next_count;
 
 // The vectors of a three-pass round as the card holds them.
 fn held_vectors(card: Card) -> Vectors
-    ensures { vectorsOf result ≡ heldVectors card }
+    ensures { vectors_of result ≡ held_vectors card }
 {
     let s = card.s;
     let r0 = card.r0;
@@ -33,9 +33,9 @@ fn held_vectors(card: Card) -> Vectors
 }
 
 fn write_reply(card: Card, challenge: u8, out: &mut [u8])
-    requires { (areSizes card.q card.n card.m ≡ true)
-        × (length out.old ≡ replyLength card.scheme card.n card.m) }
-    ensures { out.new ≡ sentReply card challenge }
+    requires { (are_sizes card.q card.n card.m ≡ true)
+        × (length out.old ≡ reply_length card.scheme card.n card.m) }
+    ensures { out.new ≡ sent_reply card challenge }
 {
     let scheme = card.scheme;
     let rhos = card.rhos;
@@ -55,7 +55,7 @@ fn write_reply(card: Card, challenge: u8, out: &mut [u8])
 
 // The session after a reply: in its next round, nothing lent, or closed.
 fn replied_card(card: Card) -> Card
-    ensures { result ≡ repliedCard card }
+    ensures { result ≡ replied_card card }
 {
     let next = next_count(card.round);
     if next < card.rounds {
@@ -67,9 +67,9 @@ fn replied_card(card: Card) -> Card
 
 // Writes the reply to a challenge to `out`, and forgets what was lent for the round.
 pub fn reply(card: Card, challenge: u8, out: &mut [u8]) -> CardAnswer
-    ensures { (result.refusal ≡ replyRefusal card challenge (length out.old))
-        × (result.card ≡ kept result.refusal card (repliedCard card))
-        × (out.new ≡ kept result.refusal out.old (sentReply card challenge)) }
+    ensures { (result.refusal ≡ reply_refusal card challenge (length out.old))
+        × (result.card ≡ kept result.refusal card (replied_card card))
+        × (out.new ≡ kept result.refusal out.old (sent_reply card challenge)) }
 {
     let refused = reply_refusal(card, challenge, out.len());
     if refused != 0 {

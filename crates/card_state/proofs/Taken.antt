@@ -7,147 +7,147 @@ use native.Mathlib.Omega.{arith}
 use lib.ListN.{length, take}
 use borrow.Author.Tests.{eq-eqb, lt-ltb, ltb-true}
 use Rattle.slices.specs.Slices.{same}
-use Rattle.slices.proofs.Sameness.{same-true, same-by}
-use Rattle.refusal.proofs.Refusals.{first-zero, later-zero, test-holds, equal-holds, both-zero, unless-holds}
-use Rattle.field.specs.Vector.{asVector, allBelow}
-use Rattle.system.specs.System.{qOf, nOf, mOf, areSizes, hasSizes, systemRefusal, systemAgainst, F}
-use Rattle.scheme.specs.Scheme.{isScheme, isRounds, challenges, drawnLength, commitmentsLength, lentLength, replyLength}
-use Rattle.session_state.proofs.States.{state-due, due-state}
+use Rattle.slices.proofs.Sameness.{same_true, same_by}
+use Rattle.refusal.proofs.Refusals.{first_zero, later_zero, test_holds, equal_holds, both_zero, unless_holds}
+use Rattle.field.specs.Vector.{as_vector, all_below}
+use Rattle.system.specs.System.{q_of, n_of, m_of, are_sizes, has_sizes, system_refusal, system_against, F}
+use Rattle.scheme.specs.Scheme.{is_scheme, is_rounds, challenges, drawn_length, commitments_length, lent_length, reply_length}
+use Rattle.session_state.proofs.States.{state_due, due_state}
 use Rattle.card_state.specs.declared.session.Card.{Card}
-use Rattle.card_state.specs.Card.{phaseNumber, openForm, openRefusal, commitRefusal, alphaRefusal, replyRefusal}
+use Rattle.card_state.specs.Card.{phase_number, open_form, open_refusal, commit_refusal, alpha_refusal, reply_refusal}
 
 -- ---- open
 
 pub record OpenTaken (b : List ℕ) (scheme rounds : ℕ) (v s : List ℕ) : Type 0 where
-  pub good : systemRefusal b ≡ 0
-  pub scheme-value : isScheme scheme ≡ true
-  pub rounds-value : isRounds rounds ≡ true
-  pub key-length : length v ≡ mOf b
-  pub secret-length : length s ≡ nOf b
-  pub key-elements : allBelow (qOf b) v ≡ true
-  pub secret-elements : allBelow (qOf b) s ≡ true
-  pub key : F b (asVector s) ≡ asVector v
+  pub good : system_refusal b ≡ 0
+  pub scheme_value : is_scheme scheme ≡ true
+  pub rounds_value : is_rounds rounds ≡ true
+  pub key_length : length v ≡ m_of b
+  pub secret_length : length s ≡ n_of b
+  pub key_elements : all_below (q_of b) v ≡ true
+  pub secret_elements : all_below (q_of b) s ≡ true
+  pub key : F b (as_vector s) ≡ as_vector v
 
-pub open-taken : (b : List ℕ) (scheme rounds : ℕ) (v s : List ℕ) → openRefusal b scheme rounds v s ≡ 0 → OpenTaken b scheme rounds v s
-unfolding openRefusal openForm
-open-taken b scheme rounds v s none =
-    let form = first-zero _ _ none in
-    let after-system = later-zero _ _ form in
-    let after-scheme = later-zero _ _ after-system in
-    let after-rounds = later-zero _ _ after-scheme in
-    let after-key = later-zero _ _ after-rounds in
-    let after-secret = later-zero _ _ after-key in
+pub open_taken : (b : List ℕ) (scheme rounds : ℕ) (v s : List ℕ) → open_refusal b scheme rounds v s ≡ 0 → OpenTaken b scheme rounds v s
+unfolding open_refusal open_form
+open_taken b scheme rounds v s none =
+    let form = first_zero _ _ none in
+    let after_system = later_zero _ _ form in
+    let after_scheme = later_zero _ _ after_system in
+    let after_rounds = later_zero _ _ after_scheme in
+    let after_key = later_zero _ _ after_rounds in
+    let after_secret = later_zero _ _ after_key in
     record {
-      good = first-zero _ _ form;
-      scheme-value = test-holds (isScheme scheme) 1 tt (first-zero _ _ after-system);
-      rounds-value = test-holds (isRounds rounds) 1 tt (first-zero _ _ after-scheme);
-      key-length = equal-holds (length v) (mOf b) 2 tt (first-zero _ _ after-rounds);
-      secret-length = equal-holds (length s) (nOf b) 2 tt (first-zero _ _ after-key);
-      key-elements = test-holds (allBelow (qOf b) v) 3 tt (first-zero _ _ after-secret);
-      secret-elements = test-holds (allBelow (qOf b) s) 3 tt (later-zero _ _ after-secret);
-      key = same-true _ _ (test-holds (same (F b (asVector s)) (asVector v)) 5 tt (later-zero _ _ none));
+      good = first_zero _ _ form;
+      scheme_value = test_holds (is_scheme scheme) 1 tt (first_zero _ _ after_system);
+      rounds_value = test_holds (is_rounds rounds) 1 tt (first_zero _ _ after_scheme);
+      key_length = equal_holds (length v) (m_of b) 2 tt (first_zero _ _ after_rounds);
+      secret_length = equal_holds (length s) (n_of b) 2 tt (first_zero _ _ after_key);
+      key_elements = test_holds (all_below (q_of b) v) 3 tt (first_zero _ _ after_secret);
+      secret_elements = test_holds (all_below (q_of b) s) 3 tt (later_zero _ _ after_secret);
+      key = same_true _ _ (test_holds (same (F b (as_vector s)) (as_vector v)) 5 tt (later_zero _ _ none));
     }
 
 -- "An opening to which no numbered refusal applies isn't refused."
-pub open-due : (b : List ℕ) (scheme rounds : ℕ) (v s : List ℕ) → OpenTaken b scheme rounds v s → openRefusal b scheme rounds v s ≡ 0
-unfolding openRefusal openForm
-open-due b scheme rounds v s k =
-    both-zero _ _
-    (both-zero _ _ k.good
-    (both-zero _ _ (unless-holds _ 1 k.scheme-value)
-    (both-zero _ _ (unless-holds _ 1 k.rounds-value)
-    (both-zero _ _ (unless-holds _ 2 (eq-eqb (length v) (mOf b) k.key-length))
-    (both-zero _ _ (unless-holds _ 2 (eq-eqb (length s) (nOf b) k.secret-length)) (both-zero _ _ (unless-holds _ 3 k.key-elements) (unless-holds _ 3 k.secret-elements)))))))
-    (unless-holds _ 5 (same-by (F b (asVector s)) (asVector v) k.key))
+pub open_due : (b : List ℕ) (scheme rounds : ℕ) (v s : List ℕ) → OpenTaken b scheme rounds v s → open_refusal b scheme rounds v s ≡ 0
+unfolding open_refusal open_form
+open_due b scheme rounds v s k =
+    both_zero _ _
+    (both_zero _ _ k.good
+    (both_zero _ _ (unless_holds _ 1 k.scheme_value)
+    (both_zero _ _ (unless_holds _ 1 k.rounds_value)
+    (both_zero _ _ (unless_holds _ 2 (eq-eqb (length v) (m_of b) k.key_length))
+    (both_zero _ _ (unless_holds _ 2 (eq-eqb (length s) (n_of b) k.secret_length)) (both_zero _ _ (unless_holds _ 3 k.key_elements) (unless_holds _ 3 k.secret_elements)))))))
+    (unless_holds _ 5 (same_by (F b (as_vector s)) (as_vector v) k.key))
 
 -- ---- commit
 
 pub record CommitTaken (card : Card) (b lent : List ℕ) (out : ℕ) : Type 0 where
-  pub due : phaseNumber card.phase ≡ 1
-  pub good : systemRefusal b ≡ 0
-  pub fits : hasSizes b card.q card.n card.m ≡ true
-  pub lent-length : length lent ≡ lentLength card.scheme card.n card.m
-  pub room : out ≡ commitmentsLength card.scheme
-  pub elements : allBelow card.q (take (drawnLength card.scheme card.n card.m) lent) ≡ true
+  pub due : phase_number card.phase ≡ 1
+  pub good : system_refusal b ≡ 0
+  pub fits : has_sizes b card.q card.n card.m ≡ true
+  pub lent_length_is : length lent ≡ lent_length card.scheme card.n card.m
+  pub room : out ≡ commitments_length card.scheme
+  pub elements : all_below card.q (take (drawn_length card.scheme card.n card.m) lent) ≡ true
 
-pub commit-taken : (card : Card) (b lent : List ℕ) (out : ℕ) → commitRefusal card b lent out ≡ 0 → CommitTaken card b lent out
-unfolding commitRefusal systemAgainst
-commit-taken card b lent out none =
-    let after-state = later-zero _ _ none in
-    let system = first-zero _ _ after-state in
-    let after-sizes = later-zero _ _ after-state in
-    let after-lent = later-zero _ _ after-sizes in
+pub commit_taken : (card : Card) (b lent : List ℕ) (out : ℕ) → commit_refusal card b lent out ≡ 0 → CommitTaken card b lent out
+unfolding commit_refusal system_against
+commit_taken card b lent out none =
+    let after_state = later_zero _ _ none in
+    let system = first_zero _ _ after_state in
+    let after_sizes = later_zero _ _ after_state in
+    let after_lent = later_zero _ _ after_sizes in
     record {
-      due = state-due (phaseNumber card.phase) 1 (first-zero _ _ none);
-      good = first-zero _ _ system;
-      fits = test-holds (hasSizes b card.q card.n card.m) 7 tt (later-zero _ _ system);
-      lent-length = equal-holds (length lent) (lentLength card.scheme card.n card.m) 2 tt (first-zero _ _ after-sizes);
-      room = equal-holds out (commitmentsLength card.scheme) 2 tt (first-zero _ _ after-lent);
-      elements = test-holds (allBelow card.q (take (drawnLength card.scheme card.n card.m) lent)) 3 tt (later-zero _ _ after-lent);
+      due = state_due (phase_number card.phase) 1 (first_zero _ _ none);
+      good = first_zero _ _ system;
+      fits = test_holds (has_sizes b card.q card.n card.m) 7 tt (later_zero _ _ system);
+      lent_length_is = equal_holds (length lent) (lent_length card.scheme card.n card.m) 2 tt (first_zero _ _ after_sizes);
+      room = equal_holds out (commitments_length card.scheme) 2 tt (first_zero _ _ after_lent);
+      elements = test_holds (all_below card.q (take (drawn_length card.scheme card.n card.m) lent)) 3 tt (later_zero _ _ after_lent);
     }
 
-pub commit-due : (card : Card) (b lent : List ℕ) (out : ℕ) → CommitTaken card b lent out → commitRefusal card b lent out ≡ 0
-unfolding commitRefusal systemAgainst
-commit-due card b lent out k =
-    both-zero _ _ (due-state (phaseNumber card.phase) 1 k.due (λ e. absurd (omega arith)))
-    (both-zero _ _ (both-zero _ _ k.good (unless-holds _ 7 k.fits))
-    (both-zero _ _ (unless-holds _ 2 (eq-eqb (length lent) (lentLength card.scheme card.n card.m) k.lent-length))
-    (both-zero _ _ (unless-holds _ 2 (eq-eqb out (commitmentsLength card.scheme) k.room)) (unless-holds _ 3 k.elements))))
+pub commit_due : (card : Card) (b lent : List ℕ) (out : ℕ) → CommitTaken card b lent out → commit_refusal card b lent out ≡ 0
+unfolding commit_refusal system_against
+commit_due card b lent out k =
+    both_zero _ _ (due_state (phase_number card.phase) 1 k.due (λ e. absurd (omega arith)))
+    (both_zero _ _ (both_zero _ _ k.good (unless_holds _ 7 k.fits))
+    (both_zero _ _ (unless_holds _ 2 (eq-eqb (length lent) (lent_length card.scheme card.n card.m) k.lent_length_is))
+    (both_zero _ _ (unless_holds _ 2 (eq-eqb out (commitments_length card.scheme) k.room)) (unless_holds _ 3 k.elements))))
 
 -- ---- reply to α
 
 pub record AlphaTaken (card : Card) (b : List ℕ) (α out : ℕ) : Type 0 where
-  pub due : phaseNumber card.phase ≡ 2
-  pub good : systemRefusal b ≡ 0
-  pub fits : hasSizes b card.q card.n card.m ≡ true
+  pub due : phase_number card.phase ≡ 2
+  pub good : system_refusal b ≡ 0
+  pub fits : has_sizes b card.q card.n card.m ≡ true
   pub room : out ≡ card.n + card.m
   pub element : α < card.q
 
-pub alpha-taken : (card : Card) (b : List ℕ) (α out : ℕ) → alphaRefusal card b α out ≡ 0 → AlphaTaken card b α out
-unfolding alphaRefusal systemAgainst
-alpha-taken card b α out none =
-    let after-state = later-zero _ _ none in
-    let system = first-zero _ _ after-state in
-    let after-sizes = later-zero _ _ after-state in
+pub alpha_taken : (card : Card) (b : List ℕ) (α out : ℕ) → alpha_refusal card b α out ≡ 0 → AlphaTaken card b α out
+unfolding alpha_refusal system_against
+alpha_taken card b α out none =
+    let after_state = later_zero _ _ none in
+    let system = first_zero _ _ after_state in
+    let after_sizes = later_zero _ _ after_state in
     record {
-      due = state-due (phaseNumber card.phase) 2 (first-zero _ _ none);
-      good = first-zero _ _ system;
-      fits = test-holds (hasSizes b card.q card.n card.m) 7 tt (later-zero _ _ system);
-      room = equal-holds out (card.n + card.m) 2 tt (first-zero _ _ after-sizes);
-      element = ltb-true α card.q (test-holds _ 3 tt (later-zero _ _ after-sizes));
+      due = state_due (phase_number card.phase) 2 (first_zero _ _ none);
+      good = first_zero _ _ system;
+      fits = test_holds (has_sizes b card.q card.n card.m) 7 tt (later_zero _ _ system);
+      room = equal_holds out (card.n + card.m) 2 tt (first_zero _ _ after_sizes);
+      element = ltb-true α card.q (test_holds _ 3 tt (later_zero _ _ after_sizes));
     }
 
-pub alpha-due : (card : Card) (b : List ℕ) (α out : ℕ) → AlphaTaken card b α out → alphaRefusal card b α out ≡ 0
-unfolding alphaRefusal systemAgainst
-alpha-due card b α out k =
-    both-zero _ _ (due-state (phaseNumber card.phase) 2 k.due (λ e. absurd (omega arith)))
-    (both-zero _ _ (both-zero _ _ k.good (unless-holds _ 7 k.fits))
-    (both-zero _ _ (unless-holds _ 2 (eq-eqb out (card.n + card.m) k.room)) (unless-holds _ 3 (lt-ltb α card.q k.element))))
+pub alpha_due : (card : Card) (b : List ℕ) (α out : ℕ) → AlphaTaken card b α out → alpha_refusal card b α out ≡ 0
+unfolding alpha_refusal system_against
+alpha_due card b α out k =
+    both_zero _ _ (due_state (phase_number card.phase) 2 k.due (λ e. absurd (omega arith)))
+    (both_zero _ _ (both_zero _ _ k.good (unless_holds _ 7 k.fits))
+    (both_zero _ _ (unless_holds _ 2 (eq-eqb out (card.n + card.m) k.room)) (unless_holds _ 3 (lt-ltb α card.q k.element))))
 
 -- ---- reply
 
 pub record ReplyTaken (card : Card) (challenge out : ℕ) : Type 0 where
-  pub due : phaseNumber card.phase ≡ 3
-  pub sizes : areSizes card.q card.n card.m ≡ true
-  pub room : out ≡ replyLength card.scheme card.n card.m
+  pub due : phase_number card.phase ≡ 3
+  pub sizes : are_sizes card.q card.n card.m ≡ true
+  pub room : out ≡ reply_length card.scheme card.n card.m
   pub value : challenge < challenges card.scheme
 
-pub reply-taken : (card : Card) (challenge out : ℕ) → replyRefusal card challenge out ≡ 0 → ReplyTaken card challenge out
-unfolding replyRefusal
-reply-taken card challenge out none =
-    let after-state = later-zero _ _ none in
-    let after-sizes = later-zero _ _ after-state in
+pub reply_taken_lem : (card : Card) (challenge out : ℕ) → reply_refusal card challenge out ≡ 0 → ReplyTaken card challenge out
+unfolding reply_refusal
+reply_taken_lem card challenge out none =
+    let after_state = later_zero _ _ none in
+    let after_sizes = later_zero _ _ after_state in
     record {
-      due = state-due (phaseNumber card.phase) 3 (first-zero _ _ none);
-      sizes = test-holds (areSizes card.q card.n card.m) 1 tt (first-zero _ _ after-state);
-      room = equal-holds out (replyLength card.scheme card.n card.m) 2 tt (first-zero _ _ after-sizes);
-      value = ltb-true challenge (challenges card.scheme) (test-holds _ 4 tt (later-zero _ _ after-sizes));
+      due = state_due (phase_number card.phase) 3 (first_zero _ _ none);
+      sizes = test_holds (are_sizes card.q card.n card.m) 1 tt (first_zero _ _ after_state);
+      room = equal_holds out (reply_length card.scheme card.n card.m) 2 tt (first_zero _ _ after_sizes);
+      value = ltb-true challenge (challenges card.scheme) (test_holds _ 4 tt (later_zero _ _ after_sizes));
     }
 
-pub reply-due : (card : Card) (challenge out : ℕ) → ReplyTaken card challenge out → replyRefusal card challenge out ≡ 0
-unfolding replyRefusal
-reply-due card challenge out k =
-    both-zero _ _ (due-state (phaseNumber card.phase) 3 k.due (λ e. absurd (omega arith)))
-    (both-zero _ _ (unless-holds _ 1 k.sizes)
-    (both-zero _ _ (unless-holds _ 2 (eq-eqb out (replyLength card.scheme card.n card.m) k.room))
-    (unless-holds _ 4 (lt-ltb challenge (challenges card.scheme) k.value))))
+pub reply_due : (card : Card) (challenge out : ℕ) → ReplyTaken card challenge out → reply_refusal card challenge out ≡ 0
+unfolding reply_refusal
+reply_due card challenge out k =
+    both_zero _ _ (due_state (phase_number card.phase) 3 k.due (λ e. absurd (omega arith)))
+    (both_zero _ _ (unless_holds _ 1 k.sizes)
+    (both_zero _ _ (unless_holds _ 2 (eq-eqb out (reply_length card.scheme card.n card.m) k.room))
+    (unless_holds _ 4 (lt-ltb challenge (challenges card.scheme) k.value))))

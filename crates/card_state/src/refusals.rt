@@ -1,6 +1,6 @@
 // The refusals of the card's calls, in document 01's order: 11, 10; the system's, 7; 1, 2, 3, 4, 5.
 ghost use Rattle.std.specs.Prelude.{◌≡◌};
-ghost use Rattle.card_state.specs.Card.{openForm, openRefusal, commitRefusal, alphaRefusal, replyRefusal};
+ghost use Rattle.card_state.specs.Card.{open_form, open_refusal, commit_refusal, alpha_refusal, reply_refusal};
 
 use crate::session::{Card, phase_number};
 use field::{all_below, from_slice};
@@ -15,7 +15,7 @@ use system::{are_sizes, check, check_against};
 
 // All refusals of an opening but 5.
 fn open_form<'a>(system: &'a [u8], scheme: u8, rounds: u8, v: &'a [u8], s: &'a [u8]) -> u8
-    ensures { result ≡ openForm system.now scheme rounds v.now s.now }
+    ensures { result ≡ open_form system.now scheme rounds v.now s.now }
 {
     let refused = check(system);
     if refused != 0 {
@@ -35,7 +35,7 @@ fn open_form<'a>(system: &'a [u8], scheme: u8, rounds: u8, v: &'a [u8], s: &'a [
 
 // The refusal of an opening: F(s) is formed only where nothing else is wrong.
 pub fn open_refusal<'a>(system: &'a [u8], scheme: u8, rounds: u8, v: &'a [u8], s: &'a [u8]) -> u8
-    ensures { result ≡ openRefusal system.now scheme rounds v.now s.now }
+    ensures { result ≡ open_refusal system.now scheme rounds v.now s.now }
 {
     let form = open_form(system, scheme, rounds, v, s);
     if form != 0 {
@@ -48,7 +48,7 @@ pub fn open_refusal<'a>(system: &'a [u8], scheme: u8, rounds: u8, v: &'a [u8], s
 
 // What `commit` refuses.
 pub fn commit_refusal<'a>(card: Card, system: &'a [u8], lent: &'a [u8], out_len: usize) -> u8
-    ensures { result ≡ commitRefusal card system.now lent.now out_len }
+    ensures { result ≡ commit_refusal card system.now lent.now out_len }
 {
     let phase = card.phase;
     let scheme = card.scheme;
@@ -70,7 +70,7 @@ pub fn commit_refusal<'a>(card: Card, system: &'a [u8], lent: &'a [u8], out_len:
 
 // What `answer_alpha` refuses.
 pub fn alpha_refusal(card: Card, system: &[u8], alpha: u8, out_len: usize) -> u8
-    ensures { result ≡ alphaRefusal card system.now alpha out_len }
+    ensures { result ≡ alpha_refusal card system.now alpha out_len }
 {
     let phase = card.phase;
     let state = state_refusal(phase_number(phase), 2);
@@ -89,7 +89,7 @@ pub fn alpha_refusal(card: Card, system: &[u8], alpha: u8, out_len: usize) -> u8
 
 // What `reply` refuses; 1 is for a q, n or m that no opening gives a session.
 pub fn reply_refusal(card: Card, challenge: u8, out_len: usize) -> u8
-    ensures { result ≡ replyRefusal card challenge out_len }
+    ensures { result ≡ reply_refusal card challenge out_len }
 {
     let phase = card.phase;
     let scheme = card.scheme;

@@ -1,6 +1,6 @@
 // The session's struct.
 ghost use Rattle.std.specs.Prelude.{◌≡◌};
-ghost use Rattle.card_state.specs.Card.{phaseNumber, noRhos, noLent, cardDomain, closedCard, cardWith, heldLent};
+ghost use Rattle.card_state.specs.Card.{phase_number, no_rhos, no_lent, card_domain, closed_card, card_with, held_lent};
 
 use commitment::Domain;
 use exchange::Lent;
@@ -45,7 +45,7 @@ pub struct CardAnswer {
 
 // The due call by number, 0 for a closed session.
 pub fn phase_number(phase: CardPhase) -> u8
-    ensures { result ≡ phaseNumber phase }
+    ensures { result ≡ phase_number phase }
 {
     match phase {
         CardPhase::Closed(_) => 0,
@@ -57,7 +57,7 @@ pub fn phase_number(phase: CardPhase) -> u8
 
 // What stands before ρ in every string that is hashed in the session.
 pub fn card_domain(card: Card) -> Domain
-    ensures { result ≡ cardDomain card }
+    ensures { result ≡ card_domain card }
 {
     let scheme = card.scheme;
     Domain { scheme: scheme }
@@ -65,7 +65,7 @@ pub fn card_domain(card: Card) -> Domain
 
 // No ρ lent.
 pub fn no_rhos() -> Rhos
-    ensures { result ≡ noRhos }
+    ensures { result ≡ no_rhos }
 {
     Rhos {
         rho0: [0; 32],
@@ -76,7 +76,7 @@ pub fn no_rhos() -> Rhos
 
 // Nothing lent.
 pub fn no_lent() -> Lent
-    ensures { result ≡ noLent }
+    ensures { result ≡ no_lent }
 {
     Lent {
         r0: [0; 96],
@@ -88,7 +88,7 @@ pub fn no_lent() -> Lent
 
 // A closed session: zeros, and the first scheme.
 pub fn closed_card() -> Card
-    ensures { result ≡ closedCard }
+    ensures { result ≡ closed_card }
 {
     Card {
         phase: CardPhase::Closed(Verdict::None),
@@ -109,7 +109,7 @@ pub fn closed_card() -> Card
 
 // The same session in another phase and round, with what is lent for it.
 pub fn card_with(card: Card, phase: CardPhase, round: u8, l: Lent, e1: [u8; 96]) -> Card
-    ensures { result ≡ cardWith card phase round l e1 }
+    ensures { result ≡ card_with card phase round l e1 }
 {
     let scheme = card.scheme;
     let s = card.s;
@@ -136,7 +136,7 @@ pub fn card_with(card: Card, phase: CardPhase, round: u8, l: Lent, e1: [u8; 96])
 
 // What is lent for the round, as the card holds it.
 pub fn held_lent(card: Card) -> Lent
-    ensures { result ≡ heldLent card }
+    ensures { result ≡ held_lent card }
 {
     let r0 = card.r0;
     let t0 = card.t0;

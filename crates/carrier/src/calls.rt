@@ -1,8 +1,8 @@
 // The calls of an open session.
 ghost use Rattle.std.specs.Prelude.{◌≡◌, false};
 ghost use Rattle.refusal.specs.Refusal.{kept};
-ghost use Rattle.carrier_state.specs.Carrier.{commitmentsRefusal, withCommitments, alphaRefusal, withAlpha, middleRefusal, withMiddle};
-ghost use Rattle.carrier_state.specs.Carrier.{challengeRefusal, withChallenge, replyRefusal, acceptsReply, judgedCarrier};
+ghost use Rattle.carrier_state.specs.Carrier.{commitments_refusal, with_commitments, alpha_refusal, with_alpha, middle_refusal, with_middle};
+ghost use Rattle.carrier_state.specs.Carrier.{challenge_refusal, with_challenge, reply_refusal, accepts_reply, judged_carrier};
 
 use carrier_state::{
     Carrier, CarrierAnswer, CarrierPhase, Judged, alpha_refusal, answer, carrier_domain,
@@ -15,15 +15,15 @@ use session_state::{Verdict, next_count};
 
 // Takes the commitments of a round.
 pub fn take_commitments(c: Carrier, commitments: &[u8]) -> CarrierAnswer
-    ensures { (result.refusal ≡ commitmentsRefusal c commitments.now)
-        × (result.carrier ≡ kept result.refusal c (withCommitments c commitments.now)) }
+    ensures { (result.refusal ≡ commitments_refusal c commitments.now)
+        × (result.carrier ≡ kept result.refusal c (with_commitments c commitments.now)) }
 {
     let refused = commitments_refusal(c, commitments);
     answer(refused, c, with_commitments(c, commitments))
 }
 
 fn with_commitments(c: Carrier, commitments: &[u8]) -> Carrier
-    ensures { result ≡ withCommitments c commitments.now }
+    ensures { result ≡ with_commitments c commitments.now }
 {
     let held = held_commitments(commitments);
     let turn = no_turn();
@@ -37,7 +37,7 @@ fn with_commitments(c: Carrier, commitments: &[u8]) -> Carrier
 
 // Sets α, in scheme 5.
 pub fn set_alpha(c: Carrier, alpha: u8) -> CarrierAnswer
-    ensures { (result.refusal ≡ alphaRefusal c alpha) × (result.carrier ≡ kept result.refusal c (withAlpha c alpha)) }
+    ensures { (result.refusal ≡ alpha_refusal c alpha) × (result.carrier ≡ kept result.refusal c (with_alpha c alpha)) }
 {
     let refused = alpha_refusal(c, alpha);
     let sent = c.commitments;
@@ -48,7 +48,7 @@ pub fn set_alpha(c: Carrier, alpha: u8) -> CarrierAnswer
 
 // Takes t1 and e1, one behind the other, in scheme 5.
 pub fn take_middle(c: Carrier, middle: &[u8]) -> CarrierAnswer
-    ensures { (result.refusal ≡ middleRefusal c middle.now) × (result.carrier ≡ kept result.refusal c (withMiddle c middle.now)) }
+    ensures { (result.refusal ≡ middle_refusal c middle.now) × (result.carrier ≡ kept result.refusal c (with_middle c middle.now)) }
 {
     let refused = middle_refusal(c, middle);
     let sent = c.commitments;
@@ -59,7 +59,7 @@ pub fn take_middle(c: Carrier, middle: &[u8]) -> CarrierAnswer
 
 // Sets the challenge.
 pub fn set_challenge(c: Carrier, challenge: u8) -> CarrierAnswer
-    ensures { (result.refusal ≡ challengeRefusal c challenge) × (result.carrier ≡ kept result.refusal c (withChallenge c challenge)) }
+    ensures { (result.refusal ≡ challenge_refusal c challenge) × (result.carrier ≡ kept result.refusal c (with_challenge c challenge)) }
 {
     let refused = challenge_refusal(c, challenge);
     let sent = c.commitments;
@@ -77,7 +77,7 @@ pub fn set_challenge(c: Carrier, challenge: u8) -> CarrierAnswer
 
 // The session after a round was judged: in its next round, or closed.
 fn judged_carrier(c: Carrier, accepted: bool) -> Carrier
-    ensures { result ≡ judgedCarrier c accepted }
+    ensures { result ≡ judged_carrier c accepted }
 {
     let next = next_count(c.accepted);
     if accepted {
@@ -95,9 +95,9 @@ fn judged_carrier(c: Carrier, accepted: bool) -> Carrier
 
 // Takes the reply of a round, and answers whether the round is accepted.
 pub fn take_reply<'a>(c: Carrier, system: &'a [u8], reply: &'a [u8]) -> Judged
-    ensures { (result.refusal ≡ replyRefusal c system.now reply.now)
-        × (result.accepted ≡ kept result.refusal false (acceptsReply c system.now reply.now))
-        × (result.carrier ≡ kept result.refusal c (judgedCarrier c (acceptsReply c system.now reply.now))) }
+    ensures { (result.refusal ≡ reply_refusal c system.now reply.now)
+        × (result.accepted ≡ kept result.refusal false (accepts_reply c system.now reply.now))
+        × (result.carrier ≡ kept result.refusal c (judged_carrier c (accepts_reply c system.now reply.now))) }
 {
     let refused = reply_refusal(c, system, reply);
     if refused != 0 {

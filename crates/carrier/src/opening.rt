@@ -2,7 +2,7 @@
 ghost use Rattle.std.specs.Prelude.{◌≡◌};
 ghost use Rattle.refusal.specs.Refusal.{kept};
 ghost use Rattle.session_state.specs.declared.Verdict.TheVariants.{None as NoVerdict};
-ghost use Rattle.carrier_state.specs.Carrier.{openRefusal, closedCarrier, openedCarrier};
+ghost use Rattle.carrier_state.specs.Carrier.{open_refusal, closed_carrier, opened_carrier};
 
 use carrier_state::{
     Carrier, CarrierAnswer, CarrierPhase, answer, closed_carrier, held_commitments, no_turn,
@@ -15,7 +15,7 @@ use slices::byte_at;
 
 // A session in its first round.
 fn opened_carrier<'a>(system: &'a [u8], scheme: u8, rounds: u8, v: &'a [u8]) -> Carrier
-    ensures { result ≡ openedCarrier system.now scheme rounds v.now }
+    ensures { result ≡ opened_carrier system.now scheme rounds v.now }
 {
     let passes = scheme_of(scheme);
     Carrier {
@@ -35,8 +35,8 @@ fn opened_carrier<'a>(system: &'a [u8], scheme: u8, rounds: u8, v: &'a [u8]) -> 
 
 // Opens a session of so many rounds for the key v.
 pub fn open<'a>(system: &'a [u8], scheme: u8, rounds: u8, v: &'a [u8]) -> CarrierAnswer
-    ensures { (result.refusal ≡ openRefusal system.now scheme rounds v.now)
-        × (result.carrier ≡ kept result.refusal (closedCarrier NoVerdict 0) (openedCarrier system.now scheme rounds v.now)) }
+    ensures { (result.refusal ≡ open_refusal system.now scheme rounds v.now)
+        × (result.carrier ≡ kept result.refusal (closed_carrier NoVerdict 0) (opened_carrier system.now scheme rounds v.now)) }
 {
     let refused = open_refusal(system, scheme, rounds, v);
     let closed = closed_carrier(Verdict::None, 0);

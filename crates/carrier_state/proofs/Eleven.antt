@@ -3,43 +3,43 @@ use Prim.Native.Nat.{ℕ}
 use mathlib.Core.Path.{◌≡◌, refl}
 use mathlib.Core.List.{List}
 use lib.Dec.{eqb}
-use Rattle.refusal.proofs.Refusals.{unless-most, orElse-most}
-use Rattle.system.proofs.SystemLayout.{lent-most}
-use Rattle.session_state.proofs.States.{ByState, by-state-eleven}
+use Rattle.refusal.proofs.Refusals.{unless_most, or_else_most}
+use Rattle.system.proofs.SystemLayout.{lent_most}
+use Rattle.session_state.proofs.States.{ByState, by_state_eleven}
 use Rattle.carrier_state.specs.declared.session.Carrier.{Carrier}
-use Rattle.carrier_state.specs.Carrier.{phaseNumber, commitmentsRefusal, alphaRefusal, middleRefusal, challengeRefusal, replyRefusal}
+use Rattle.carrier_state.specs.Carrier.{phase_number, commitments_refusal, alpha_refusal, middle_refusal, challenge_refusal, reply_refusal}
 
-pub commitments-by-state : (c : Carrier) (commitments : List ℕ) → ByState (commitmentsRefusal c commitments) (phaseNumber c.phase) 1
-unfolding commitmentsRefusal
-commitments-by-state c commitments = record { rest = _; few = (unless-most _ 2 9 tt); is = refl }
+pub commitments_by_state : (c : Carrier) (commitments : List ℕ) → ByState (commitments_refusal c commitments) (phase_number c.phase) 1
+unfolding commitments_refusal
+commitments_by_state c commitments = record { rest = _; few = (unless_most _ 2 9 tt); is = refl }
 
-pub commitments-eleven : (c : Carrier) (commitments : List ℕ) → eqb (commitmentsRefusal c commitments) 11 ≡ eqb (phaseNumber c.phase) 0
-commitments-eleven c commitments = by-state-eleven _ _ 1 (commitments-by-state c commitments)
+pub commitments_eleven : (c : Carrier) (commitments : List ℕ) → eqb (commitments_refusal c commitments) 11 ≡ eqb (phase_number c.phase) 0
+commitments_eleven c commitments = by_state_eleven _ _ 1 (commitments_by_state c commitments)
 
-pub alpha-by-state : (c : Carrier) (α : ℕ) → ByState (alphaRefusal c α) (phaseNumber c.phase) 2
-unfolding alphaRefusal
-alpha-by-state c α = record { rest = _; few = (unless-most _ 3 9 tt); is = refl }
+pub alpha_by_state : (c : Carrier) (α : ℕ) → ByState (alpha_refusal c α) (phase_number c.phase) 2
+unfolding alpha_refusal
+alpha_by_state c α = record { rest = _; few = (unless_most _ 3 9 tt); is = refl }
 
-pub alpha-eleven : (c : Carrier) (α : ℕ) → eqb (alphaRefusal c α) 11 ≡ eqb (phaseNumber c.phase) 0
-alpha-eleven c α = by-state-eleven _ _ 2 (alpha-by-state c α)
+pub alpha_eleven : (c : Carrier) (α : ℕ) → eqb (alpha_refusal c α) 11 ≡ eqb (phase_number c.phase) 0
+alpha_eleven c α = by_state_eleven _ _ 2 (alpha_by_state c α)
 
-pub middle-by-state : (c : Carrier) (middle : List ℕ) → ByState (middleRefusal c middle) (phaseNumber c.phase) 3
-unfolding middleRefusal
-middle-by-state c middle = record { rest = _; few = (orElse-most _ _ 9 (unless-most _ 2 9 tt) (unless-most _ 3 9 tt)); is = refl }
+pub middle_by_state : (c : Carrier) (middle : List ℕ) → ByState (middle_refusal c middle) (phase_number c.phase) 3
+unfolding middle_refusal
+middle_by_state c middle = record { rest = _; few = (or_else_most _ _ 9 (unless_most _ 2 9 tt) (unless_most _ 3 9 tt)); is = refl }
 
-pub middle-eleven : (c : Carrier) (middle : List ℕ) → eqb (middleRefusal c middle) 11 ≡ eqb (phaseNumber c.phase) 0
-middle-eleven c middle = by-state-eleven _ _ 3 (middle-by-state c middle)
+pub middle_eleven : (c : Carrier) (middle : List ℕ) → eqb (middle_refusal c middle) 11 ≡ eqb (phase_number c.phase) 0
+middle_eleven c middle = by_state_eleven _ _ 3 (middle_by_state c middle)
 
-pub challenge-by-state : (c : Carrier) (challenge : ℕ) → ByState (challengeRefusal c challenge) (phaseNumber c.phase) 4
-unfolding challengeRefusal
-challenge-by-state c challenge = record { rest = _; few = (unless-most _ 4 9 tt); is = refl }
+pub challenge_by_state : (c : Carrier) (challenge : ℕ) → ByState (challenge_refusal c challenge) (phase_number c.phase) 4
+unfolding challenge_refusal
+challenge_by_state c challenge = record { rest = _; few = (unless_most _ 4 9 tt); is = refl }
 
-pub challenge-eleven : (c : Carrier) (challenge : ℕ) → eqb (challengeRefusal c challenge) 11 ≡ eqb (phaseNumber c.phase) 0
-challenge-eleven c challenge = by-state-eleven _ _ 4 (challenge-by-state c challenge)
+pub challenge_eleven : (c : Carrier) (challenge : ℕ) → eqb (challenge_refusal c challenge) 11 ≡ eqb (phase_number c.phase) 0
+challenge_eleven c challenge = by_state_eleven _ _ 4 (challenge_by_state c challenge)
 
-pub reply-by-state : (c : Carrier) (b reply : List ℕ) → ByState (replyRefusal c b reply) (phaseNumber c.phase) 5
-unfolding replyRefusal
-reply-by-state c b reply = record { rest = _; few = (orElse-most _ _ 9 (lent-most b _ _ _) (orElse-most _ _ 9 (unless-most _ 2 9 tt) (unless-most _ 3 9 tt))); is = refl }
+pub reply_by_state : (c : Carrier) (b reply : List ℕ) → ByState (reply_refusal c b reply) (phase_number c.phase) 5
+unfolding reply_refusal
+reply_by_state c b reply = record { rest = _; few = (or_else_most _ _ 9 (lent_most b _ _ _) (or_else_most _ _ 9 (unless_most _ 2 9 tt) (unless_most _ 3 9 tt))); is = refl }
 
-pub reply-eleven : (c : Carrier) (b reply : List ℕ) → eqb (replyRefusal c b reply) 11 ≡ eqb (phaseNumber c.phase) 0
-reply-eleven c b reply = by-state-eleven _ _ 5 (reply-by-state c b reply)
+pub reply_eleven : (c : Carrier) (b reply : List ℕ) → eqb (reply_refusal c b reply) 11 ≡ eqb (phase_number c.phase) 0
+reply_eleven c b reply = by_state_eleven _ _ 5 (reply_by_state c b reply)

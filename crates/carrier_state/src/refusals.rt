@@ -1,6 +1,6 @@
 // The refusals of the carrier's calls, in document 01's order: 11, 10; the system's, 7; 1, 2, 3, 4.
 ghost use Rattle.std.specs.Prelude.{◌≡◌};
-ghost use Rattle.carrier_state.specs.Carrier.{openRefusal, commitmentsRefusal, alphaRefusal, middleRefusal, challengeRefusal, replyRefusal};
+ghost use Rattle.carrier_state.specs.Carrier.{open_refusal, commitments_refusal, alpha_refusal, middle_refusal, challenge_refusal, reply_refusal};
 
 use crate::session::{Carrier, phase_number};
 use field::all_below;
@@ -12,7 +12,7 @@ use system::{check, check_against};
 
 // What `open` refuses.
 pub fn open_refusal<'a>(system: &'a [u8], scheme: u8, rounds: u8, v: &'a [u8]) -> u8
-    ensures { result ≡ openRefusal system.now scheme rounds v.now }
+    ensures { result ≡ open_refusal system.now scheme rounds v.now }
 {
     let refused = check(system);
     if refused != 0 {
@@ -28,7 +28,7 @@ pub fn open_refusal<'a>(system: &'a [u8], scheme: u8, rounds: u8, v: &'a [u8]) -
 
 // What `take_commitments` refuses.
 pub fn commitments_refusal(c: Carrier, commitments: &[u8]) -> u8
-    ensures { result ≡ commitmentsRefusal c commitments.now }
+    ensures { result ≡ commitments_refusal c commitments.now }
 {
     let phase = c.phase;
     let scheme = c.scheme;
@@ -38,7 +38,7 @@ pub fn commitments_refusal(c: Carrier, commitments: &[u8]) -> u8
 
 // What `set_alpha` refuses.
 pub fn alpha_refusal(c: Carrier, alpha: u8) -> u8
-    ensures { result ≡ alphaRefusal c alpha }
+    ensures { result ≡ alpha_refusal c alpha }
 {
     let phase = c.phase;
     first(
@@ -49,7 +49,7 @@ pub fn alpha_refusal(c: Carrier, alpha: u8) -> u8
 
 // What `take_middle` refuses.
 pub fn middle_refusal(c: Carrier, middle: &[u8]) -> u8
-    ensures { result ≡ middleRefusal c middle.now }
+    ensures { result ≡ middle_refusal c middle.now }
 {
     let phase = c.phase;
     let length = unless(middle.len() == c.n as usize + c.m as usize, 2);
@@ -62,7 +62,7 @@ pub fn middle_refusal(c: Carrier, middle: &[u8]) -> u8
 
 // What `set_challenge` refuses.
 pub fn challenge_refusal(c: Carrier, challenge: u8) -> u8
-    ensures { result ≡ challengeRefusal c challenge }
+    ensures { result ≡ challenge_refusal c challenge }
 {
     let phase = c.phase;
     let scheme = c.scheme;
@@ -74,7 +74,7 @@ pub fn challenge_refusal(c: Carrier, challenge: u8) -> u8
 
 // What `take_reply` refuses.
 pub fn reply_refusal<'a>(c: Carrier, system: &'a [u8], reply: &'a [u8]) -> u8
-    ensures { result ≡ replyRefusal c system.now reply.now }
+    ensures { result ≡ reply_refusal c system.now reply.now }
 {
     let phase = c.phase;
     let scheme = c.scheme;

@@ -1,7 +1,7 @@
 // The session's struct.
 ghost use Rattle.std.specs.Prelude.{◌≡◌};
 ghost use Rattle.refusal.specs.Refusal.{kept};
-ghost use Rattle.carrier_state.specs.Carrier.{phaseNumber, carrierDomain, heldCommitments, heldTurn, noTurn, closedCarrier, carrierWith};
+ghost use Rattle.carrier_state.specs.Carrier.{phase_number, carrier_domain, held_commitments, held_turn, no_turn, closed_carrier, carrier_with};
 
 use commitment::Domain;
 use scheme::Scheme;
@@ -70,7 +70,7 @@ pub fn answer(refused: u8, old: Carrier, new: Carrier) -> CarrierAnswer
 
 // The due call by number, 0 for a closed session.
 pub fn phase_number(phase: CarrierPhase) -> u8
-    ensures { result ≡ phaseNumber phase }
+    ensures { result ≡ phase_number phase }
 {
     match phase {
         CarrierPhase::Closed(_) => 0,
@@ -84,7 +84,7 @@ pub fn phase_number(phase: CarrierPhase) -> u8
 
 // What stands before ρ in every string that is hashed in the session.
 pub fn carrier_domain(c: Carrier) -> Domain
-    ensures { result ≡ carrierDomain c }
+    ensures { result ≡ carrier_domain c }
 {
     let scheme = c.scheme;
     Domain { scheme: scheme }
@@ -92,7 +92,7 @@ pub fn carrier_domain(c: Carrier) -> Domain
 
 // The commitments of a round, zero beyond their length; of none, zeros.
 pub fn held_commitments(s: &[u8]) -> [u8; 96]
-    ensures { result ≡ heldCommitments s.now }
+    ensures { result ≡ held_commitments s.now }
 {
     let mut out = [0; 96];
     let mut i = 0;
@@ -105,14 +105,14 @@ pub fn held_commitments(s: &[u8]) -> [u8; 96]
 
 // No α, t1 and e1: zeros.
 pub fn no_turn() -> [u8; 193]
-    ensures { result ≡ noTurn }
+    ensures { result ≡ no_turn }
 {
     [0; 193]
 }
 
 // A closed session: the verdict, the count of accepted rounds, zeros, and the first scheme.
 pub fn closed_carrier(verdict: Verdict, accepted: u8) -> Carrier
-    ensures { result ≡ closedCarrier verdict accepted }
+    ensures { result ≡ closed_carrier verdict accepted }
 {
     Carrier {
         phase: CarrierPhase::Closed(verdict),
@@ -138,7 +138,7 @@ pub fn carrier_with(
     turn: [u8; 193],
     challenge: u8,
 ) -> Carrier
-    ensures { result ≡ carrierWith c phase accepted commitments turn challenge }
+    ensures { result ≡ carrier_with c phase accepted commitments turn challenge }
 {
     let scheme = c.scheme;
     let v = c.v;
@@ -159,7 +159,7 @@ pub fn carrier_with(
 
 // α and what stands behind it, zero beyond their length.
 pub fn held_turn(alpha: u8, s: &[u8]) -> [u8; 193]
-    ensures { result ≡ heldTurn alpha s.now }
+    ensures { result ≡ held_turn alpha s.now }
 {
     let mut out = [alpha; 193];
     let mut i = 1;

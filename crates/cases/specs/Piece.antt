@@ -4,8 +4,8 @@ use Rattle.cases.specs.declared.piece.Piece.{Piece}
 
 -- the pattern, the patches and the next piece stand in that order within the file
 pub record Placed (p : Piece) (file : List ℕ) : Type 0 where
-  pub pattern-first : p.pattern ≤ p.patches
-  pub patches-next : p.patches ≤ p.next
+  pub pattern_first : p.pattern ≤ p.patches
+  pub patches_next : p.patches ≤ p.next
   pub within : p.next ≤ length file
 
 -- the first n bytes are in bounds, and they are n

@@ -5,9 +5,9 @@
 #![tactic(auto)]
 
 ghost use Rattle.std.specs.Prelude.{◌≡◌};
-ghost use Rattle.system.specs.System.{systemRefusal};
-ghost use Rattle.clash.specs.Clash.{lowerChallenge, higherChallenge, openerFive, leftRecord, rightRecord};
-ghost use Rattle.clash.specs.Clash.{leftString, rightString, PairOf, samePair, firstClash};
+ghost use Rattle.system.specs.System.{system_refusal};
+ghost use Rattle.clash.specs.Clash.{lower_challenge, higher_challenge, opener_five, left_record, right_record};
+ghost use Rattle.clash.specs.Clash.{left_string, right_string, PairOf, same_pair, first_clash};
 
 use commitment::Text;
 use full_set::answering;
@@ -17,7 +17,7 @@ use transcript::domain_in;
 
 // Three passes: the lower of the two challenges whose replies open commitment k.
 fn lower_challenge(k: u8) -> u8
-    ensures { result ≡ lowerChallenge k }
+    ensures { result ≡ lower_challenge k }
 {
     match k {
         0 => 1,
@@ -27,7 +27,7 @@ fn lower_challenge(k: u8) -> u8
 
 // And the higher.
 fn higher_challenge(k: u8) -> u8
-    ensures { result ≡ higherChallenge k }
+    ensures { result ≡ higher_challenge k }
 {
     match k {
         0 => 2,
@@ -38,7 +38,7 @@ fn higher_challenge(k: u8) -> u8
 
 // Five passes: of two records with the challenges 0 and 1, the one that opens commitment k.
 fn opener_five<'a>(x: &'a [u8], y: &'a [u8], k: u8) -> &'a [u8]
-    ensures { result.now ≡ openerFive x.now y.now k }
+    ensures { result.now ≡ opener_five x.now y.now k }
 {
     if k != 0 {
         return y;
@@ -48,7 +48,7 @@ fn opener_five<'a>(x: &'a [u8], y: &'a [u8], k: u8) -> &'a [u8]
 
 // The record whose opening of commitment k stands first.
 fn left_record<'a>(scheme: Scheme, a: &'a [u8], b: &'a [u8], c: &'a [u8], r: u8, k: u8) -> &'a [u8]
-    ensures { result.now ≡ leftRecord scheme a.now b.now c.now r k }
+    ensures { result.now ≡ left_record scheme a.now b.now c.now r k }
 {
     match scheme {
         Scheme::ThreePass => answering(a, b, c, r, lower_challenge(k)),
@@ -66,7 +66,7 @@ fn right_record<'a>(
     r: u8,
     k: u8,
 ) -> &'a [u8]
-    ensures { result.now ≡ rightRecord scheme a.now b.now c.now d.now r k }
+    ensures { result.now ≡ right_record scheme a.now b.now c.now d.now r k }
 {
     match scheme {
         Scheme::ThreePass => answering(a, b, c, r, higher_challenge(k)),
@@ -91,9 +91,9 @@ pub fn opened_pair<'a>(
     r: u8,
     k: u8,
 ) -> Pair
-    requires { systemRefusal system.now ≡ 0 }
-    ensures { PairOf result (leftString scheme system.now a.now b.now c.now r k)
-        (rightString scheme system.now a.now b.now c.now d.now r k) }
+    requires { system_refusal system.now ≡ 0 }
+    ensures { PairOf result (left_string scheme system.now a.now b.now c.now r k)
+        (right_string scheme system.now a.now b.now c.now d.now r k) }
 {
     let left = opened_string(system, left_record(scheme, a, b, c, r, k), r, k);
     let right = opened_string(system, right_record(scheme, a, b, c, d, r, k), r, k);
@@ -111,8 +111,8 @@ fn same_pair<'a>(
     r: u8,
     k: u8,
 ) -> bool
-    requires { systemRefusal system.now ≡ 0 }
-    ensures { result ≡ samePair scheme system.now a.now b.now c.now d.now r k }
+    requires { system_refusal system.now ≡ 0 }
+    ensures { result ≡ same_pair scheme system.now a.now b.now c.now d.now r k }
 {
     let pair = opened_pair(scheme, system, a, b, c, d, r, k);
     let left = pair.left;
@@ -130,8 +130,8 @@ pub fn first_clash<'a>(
     d: &'a [u8],
     r: u8,
 ) -> u8
-    requires { systemRefusal system.now ≡ 0 }
-    ensures { result ≡ firstClash scheme system.now a.now b.now c.now d.now r }
+    requires { system_refusal system.now ≡ 0 }
+    ensures { result ≡ first_clash scheme system.now a.now b.now c.now d.now r }
 {
     let count = commitment_count(scheme);
     let mut k = 0;

@@ -5,11 +5,11 @@ use Rattle.commitment.specs.declared.Text.{Text}
 use Rattle.commitment.specs.Commitment.{longest}
 
 -- "zero beyond their lengths"
-unfoldable pub zeroBeyond : List ℕ → List ℕ
-zeroBeyond l = tabulate longest (λ i. l ! i)
+unfoldable pub zero_beyond : List ℕ → List ℕ
+zero_beyond l = tabulate longest (λ i. l ! i)
 
 unfoldable pub text : List ℕ → Text
-text l = record { bytes = zeroBeyond l; len = length l }
+text l = record { bytes = zero_beyond l; len = length l }
 
 -- the string that a text holds
 abbrev pub content : Text → List ℕ

@@ -5,7 +5,7 @@
 
 ghost use Rattle.std.specs.Prelude.{◌≡◌, ◌+◌, ◌*◌, ◌≤◌, [], ◌++◌, length, take, drop};
 ghost use Rattle.sha256.specs.Sha256.{sha256};
-ghost use Rattle.commitment.specs.Commitment.{prefix, hashedString, vectorsAt, prefixMost, longest};
+ghost use Rattle.commitment.specs.Commitment.{prefix, hashed_string, vectors_at, prefix_most, longest};
 ghost use Rattle.commitment.specs.Texts.{content, Room, TextOf, Appended};
 
 use field::clamped;
@@ -36,14 +36,14 @@ pub fn empty() -> Text
 
 // How many bytes stand before ρ.
 fn prefix_length(d: Domain) -> usize
-    ensures { (result ≡ length (prefix d 0)) × (result ≤ prefixMost) }
+    ensures { (result ≡ length (prefix d 0)) × (result ≤ prefix_most) }
 {
     2
 }
 
 // Where the vectors stand in a string: behind the prefix and ρ.
 pub fn vectors_at(d: Domain) -> usize
-    ensures { (result ≡ vectorsAt d) × (result ≤ longest) }
+    ensures { (result ≡ vectors_at d) × (result ≤ longest) }
 {
     prefix_length(d) + 32
 }
@@ -89,7 +89,7 @@ fn append(t: Text, v: [u8; 96], n: u8) -> Text
 
 // The string of commitment k with two vectors: ρ, then na elements of a and nb of b.
 pub fn string_two(d: Domain, k: u8, rho: [u8; 32], a: [u8; 96], na: u8, b: [u8; 96], nb: u8) -> Text
-    ensures { TextOf (hashedString d k rho (take na a ++ take nb b)) 96 result }
+    ensures { TextOf (hashed_string d k rho (take na a ++ take nb b)) 96 result }
 {
     append(append(start(d, k, rho), a, na), b, nb)
 }
@@ -106,7 +106,7 @@ pub fn string_three(
     c: [u8; 96],
     nc: u8,
 ) -> Text
-    ensures { TextOf (hashedString d k rho (take na a ++ (take nb b ++ take nc c))) 0 result }
+    ensures { TextOf (hashed_string d k rho (take na a ++ (take nb b ++ take nc c))) 0 result }
 {
     append(string_two(d, k, rho, a, na, b, nb), c, nc)
 }

@@ -2,48 +2,48 @@
 use Prim.Native.Nat.{ℕ}
 use mathlib.Core.Path.{◌≡◌}
 use mathlib.Core.List.{List}
-use Rattle.refusal.proofs.Refusals.{first-zero, later-zero, both-zero}
+use Rattle.refusal.proofs.Refusals.{first_zero, later_zero, both_zero}
 use Rattle.scheme.specs.declared.Scheme.{Scheme}
-use Rattle.system.specs.System.{systemRefusal}
-use Rattle.transcript.specs.Transcript.{fitRefusal}
-use Rattle.comparable.specs.Comparable.{auditedRefusal, differenceRefusal, ofFourth, comparableRefusal}
+use Rattle.system.specs.System.{system_refusal}
+use Rattle.transcript.specs.Transcript.{fit_refusal}
+use Rattle.comparable.specs.Comparable.{audited_refusal, difference_refusal, of_fourth, comparable_refusal}
 
 pub record Passed (scheme : Scheme) (system a b c d : List ℕ) : Type 0 where
-  pub good : systemRefusal system ≡ 0
-  pub read-a : auditedRefusal scheme a ≡ 0
-  pub read-b : auditedRefusal scheme b ≡ 0
-  pub read-c : auditedRefusal scheme c ≡ 0
-  pub read-d : ofFourth scheme (auditedRefusal scheme d) ≡ 0
-  pub fit : fitRefusal system a ≡ 0
-  pub same-b : differenceRefusal a b ≡ 0
-  pub same-c : differenceRefusal a c ≡ 0
-  pub same-d : ofFourth scheme (differenceRefusal a d) ≡ 0
+  pub good : system_refusal system ≡ 0
+  pub read_a : audited_refusal scheme a ≡ 0
+  pub read_b : audited_refusal scheme b ≡ 0
+  pub read_c : audited_refusal scheme c ≡ 0
+  pub read_d : of_fourth scheme (audited_refusal scheme d) ≡ 0
+  pub fit : fit_refusal system a ≡ 0
+  pub same_b : difference_refusal a b ≡ 0
+  pub same_c : difference_refusal a c ≡ 0
+  pub same_d : of_fourth scheme (difference_refusal a d) ≡ 0
 
 module _ (scheme : Scheme) (system a b c d : List ℕ) where
-  pub passed : comparableRefusal scheme system a b c d ≡ 0 → Passed scheme system a b c d
-  unfolding comparableRefusal
+  pub passed : comparable_refusal scheme system a b c d ≡ 0 → Passed scheme system a b c d
+  unfolding comparable_refusal
   passed e =
-      let of-a = later-zero _ _ e in
-      let of-b = later-zero _ _ of-a in
-      let of-c = later-zero _ _ of-b in
-      let of-d = later-zero _ _ of-c in
-      let of-fit = later-zero _ _ of-d in
-      let of-same = later-zero _ _ of-fit in
-      let of-last = later-zero _ _ of-same in
+      let of_a = later_zero _ _ e in
+      let of_b = later_zero _ _ of_a in
+      let of_c = later_zero _ _ of_b in
+      let of_d = later_zero _ _ of_c in
+      let of_fit = later_zero _ _ of_d in
+      let of_same = later_zero _ _ of_fit in
+      let of_last = later_zero _ _ of_same in
       record {
-        good = first-zero _ _ e;
-        read-a = first-zero _ _ of-a;
-        read-b = first-zero _ _ of-b;
-        read-c = first-zero _ _ of-c;
-        read-d = first-zero _ _ of-d;
-        fit = first-zero _ _ of-fit;
-        same-b = first-zero _ _ of-same;
-        same-c = first-zero _ _ of-last;
-        same-d = later-zero _ _ of-last;
+        good = first_zero _ _ e;
+        read_a = first_zero _ _ of_a;
+        read_b = first_zero _ _ of_b;
+        read_c = first_zero _ _ of_c;
+        read_d = first_zero _ _ of_d;
+        fit = first_zero _ _ of_fit;
+        same_b = first_zero _ _ of_same;
+        same_c = first_zero _ _ of_last;
+        same_d = later_zero _ _ of_last;
       }
 
-  pub none-refused : Passed scheme system a b c d → comparableRefusal scheme system a b c d ≡ 0
-  unfolding comparableRefusal
-  none-refused k =
-      both-zero _ _ k.good (both-zero _ _ k.read-a (both-zero _ _ k.read-b (both-zero _ _ k.read-c (both-zero _ _ k.read-d
-      (both-zero _ _ k.fit (both-zero _ _ k.same-b (both-zero _ _ k.same-c k.same-d)))))))
+  pub none_refused : Passed scheme system a b c d → comparable_refusal scheme system a b c d ≡ 0
+  unfolding comparable_refusal
+  none_refused k =
+      both_zero _ _ k.good (both_zero _ _ k.read_a (both_zero _ _ k.read_b (both_zero _ _ k.read_c (both_zero _ _ k.read_d
+      (both_zero _ _ k.fit (both_zero _ _ k.same_b (both_zero _ _ k.same_c k.same_d)))))))

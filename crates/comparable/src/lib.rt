@@ -5,10 +5,10 @@
 #![tactic(auto)]
 
 ghost use Rattle.std.specs.Prelude.{◌≡◌};
-ghost use Rattle.system.specs.System.{systemRefusal};
-ghost use Rattle.refusal.specs.Refusal.{◌orElse◌};
-ghost use Rattle.transcript.specs.Transcript.{fitRefusal};
-ghost use Rattle.comparable.specs.Comparable.{auditedRefusal, differenceRefusal, ofFourth, comparableRefusal, rejectedRound, laterRejection, rejectionOf};
+ghost use Rattle.system.specs.System.{system_refusal};
+ghost use Rattle.refusal.specs.Refusal.{◌or_else◌};
+ghost use Rattle.transcript.specs.Transcript.{fit_refusal};
+ghost use Rattle.comparable.specs.Comparable.{audited_refusal, difference_refusal, of_fourth, comparable_refusal, rejected_round, later_rejection, rejection_of};
 
 use record::{Reading, body_of, header_of, read, refusal_of};
 use record_form::laid_out;
@@ -20,7 +20,7 @@ use transcript::{accepts_round, fit_refusal};
 
 // The refusal of one record, 0 for none.
 fn audited_refusal(scheme: Scheme, bytes: &[u8]) -> u8
-    ensures { result ≡ auditedRefusal scheme bytes.now }
+    ensures { result ≡ audited_refusal scheme bytes.now }
 {
     let reading = read(bytes);
     let Reading::Good(layout) = reading else {
@@ -33,7 +33,7 @@ fn audited_refusal(scheme: Scheme, bytes: &[u8]) -> u8
 
 // 7 where two records differ in the header, the key or a commitment; it ends at the first of the three that differs.
 fn difference_refusal<'a>(a: &'a [u8], b: &'a [u8]) -> u8
-    ensures { result ≡ differenceRefusal a.now b.now }
+    ensures { result ≡ difference_refusal a.now b.now }
 {
     let header = unless(equal(part(a, 0, 6), part(b, 0, 6)), 7);
     if header != 0 {
@@ -51,7 +51,7 @@ fn difference_refusal<'a>(a: &'a [u8], b: &'a [u8]) -> u8
 
 // Of the fourth record, which scheme 3 has not.
 fn fourth_audited(scheme: Scheme, d: &[u8]) -> u8
-    ensures { result ≡ ofFourth scheme (auditedRefusal scheme d.now) }
+    ensures { result ≡ of_fourth scheme (audited_refusal scheme d.now) }
 {
     match scheme {
         Scheme::ThreePass => 0,
@@ -61,8 +61,8 @@ fn fourth_audited(scheme: Scheme, d: &[u8]) -> u8
 
 // The refusal of each record in turn, 0 for none; it ends at the first.
 fn readings_refusal<'a>(scheme: Scheme, a: &'a [u8], b: &'a [u8], c: &'a [u8], d: &'a [u8]) -> u8
-    ensures { result ≡ (auditedRefusal scheme a.now orElse auditedRefusal scheme b.now orElse auditedRefusal scheme c.now
-        orElse ofFourth scheme (auditedRefusal scheme d.now)) }
+    ensures { result ≡ (audited_refusal scheme a.now or_else audited_refusal scheme b.now or_else audited_refusal scheme c.now
+        or_else of_fourth scheme (audited_refusal scheme d.now)) }
 {
     let of_a = audited_refusal(scheme, a);
     if of_a != 0 {
@@ -81,7 +81,7 @@ fn readings_refusal<'a>(scheme: Scheme, a: &'a [u8], b: &'a [u8], c: &'a [u8], d
 
 // 7 where the fourth record, which scheme 3 has not, differs from the first.
 fn fourth_difference<'a>(scheme: Scheme, a: &'a [u8], d: &'a [u8]) -> u8
-    ensures { result ≡ ofFourth scheme (differenceRefusal a.now d.now) }
+    ensures { result ≡ of_fourth scheme (difference_refusal a.now d.now) }
 {
     match scheme {
         Scheme::ThreePass => 0,
@@ -98,8 +98,8 @@ fn differing_refusal<'a>(
     c: &'a [u8],
     d: &'a [u8],
 ) -> u8
-    ensures { result ≡ (fitRefusal system.now a.now orElse differenceRefusal a.now b.now orElse
-        differenceRefusal a.now c.now orElse ofFourth scheme (differenceRefusal a.now d.now)) }
+    ensures { result ≡ (fit_refusal system.now a.now or_else difference_refusal a.now b.now or_else
+        difference_refusal a.now c.now or_else of_fourth scheme (difference_refusal a.now d.now)) }
 {
     let of_sizes = fit_refusal(system, a);
     if of_sizes != 0 {
@@ -125,7 +125,7 @@ pub fn comparable_refusal<'a>(
     c: &'a [u8],
     d: &'a [u8],
 ) -> u8
-    ensures { result ≡ comparableRefusal scheme system.now a.now b.now c.now d.now }
+    ensures { result ≡ comparable_refusal scheme system.now a.now b.now c.now d.now }
 {
     let of_system = check(system);
     if of_system != 0 {
@@ -140,8 +140,8 @@ pub fn comparable_refusal<'a>(
 
 // The first rejected round of a record, counted from 1; 0 where every round is accepted.
 fn rejected_round<'a>(system: &'a [u8], bytes: &'a [u8]) -> u8
-    requires { systemRefusal system.now ≡ 0 }
-    ensures { result ≡ rejectedRound system.now bytes.now }
+    requires { system_refusal system.now ≡ 0 }
+    ensures { result ≡ rejected_round system.now bytes.now }
 {
     let rounds = header_of(bytes).rounds;
     let mut r = 0;
@@ -164,8 +164,8 @@ pub struct Rejection {
 
 // The rejected round of the fourth record, which scheme 3 has not.
 fn fourth_rejected<'a>(scheme: Scheme, system: &'a [u8], d: &'a [u8]) -> u8
-    requires { systemRefusal system.now ≡ 0 }
-    ensures { result ≡ ofFourth scheme (rejectedRound system.now d.now) }
+    requires { system_refusal system.now ≡ 0 }
+    ensures { result ≡ of_fourth scheme (rejected_round system.now d.now) }
 {
     match scheme {
         Scheme::ThreePass => 0,
@@ -175,8 +175,8 @@ fn fourth_rejected<'a>(scheme: Scheme, system: &'a [u8], d: &'a [u8]) -> u8
 
 // The same among the last two records.
 fn later_rejection<'a>(scheme: Scheme, system: &'a [u8], c: &'a [u8], d: &'a [u8]) -> Rejection
-    requires { systemRefusal system.now ≡ 0 }
-    ensures { result ≡ laterRejection scheme system.now c.now d.now }
+    requires { system_refusal system.now ≡ 0 }
+    ensures { result ≡ later_rejection scheme system.now c.now d.now }
 {
     let in_c = rejected_round(system, c);
     if in_c != 0 {
@@ -203,8 +203,8 @@ pub fn first_rejection<'a>(
     c: &'a [u8],
     d: &'a [u8],
 ) -> Rejection
-    requires { systemRefusal system.now ≡ 0 }
-    ensures { result ≡ rejectionOf scheme system.now a.now b.now c.now d.now }
+    requires { system_refusal system.now ≡ 0 }
+    ensures { result ≡ rejection_of scheme system.now a.now b.now c.now d.now }
 {
     let in_a = rejected_round(system, a);
     if in_a != 0 {

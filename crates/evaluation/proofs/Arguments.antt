@@ -5,83 +5,83 @@ use mathlib.Core.Bool.{true}
 use mathlib.Core.List.{List, [], ◌∷◌}
 use lib.Dec.{eqb}
 use borrow.Author.Tests.{eq-eqb}
-use Rattle.refusal.specs.Refusal.{unless, ◌orElse◌}
-use Rattle.refusal.proofs.Refusals.{first-zero, later-zero, test-holds, both-zero, unless-holds}
-use Rattle.field.specs.Ops.{isField}
-use Rattle.field.specs.Vector.{Elements, allBelow}
-use Rattle.field.proofs.Elements.{all-below-at, at-all-below}
-use Rattle.system.specs.System.{qOf, width, systemLength, isSize, areSizes, systemRefusal, WellFormedSystem}
-use Rattle.system.proofs.SystemLayout.{well-formed, not-refused, q-is, n-is, m-is}
+use Rattle.refusal.specs.Refusal.{unless, ◌or_else◌}
+use Rattle.refusal.proofs.Refusals.{first_zero, later_zero, test_holds, both_zero, unless_holds}
+use Rattle.field.specs.Ops.{is_field}
+use Rattle.field.specs.Vector.{Elements, all_below}
+use Rattle.field.proofs.Elements.{all_below_at, at_all_below}
+use Rattle.system.specs.System.{q_of, width, system_length, is_size, are_sizes, system_refusal, WellFormedSystem}
+use Rattle.system.proofs.SystemLayout.{well_formed, not_refused, q_is, n_is, m_is}
 use Rattle.evaluation.specs.Arguments.{Evaluable, Polarisable}
-use Rattle.evaluation.specs.Entry.{evaluateRefusal, polarRefusal}
-use Rattle.evaluation.proofs.Entries.{evaluate-system, evaluate-x, evaluate-out, polar-system, polar-x, polar-y, polar-out}
+use Rattle.evaluation.specs.Entry.{evaluate_refusal, polar_refusal}
+use Rattle.evaluation.proofs.Entries.{evaluate_system, evaluate_x, evaluate_out, polar_system, polar_x, polar_y, polar_out}
 
 -- bytes below q are elements, and elements are below q
 module _ (b : List ℕ) (w : WellFormedSystem b) (l : List ℕ) where
-  are-elements : allBelow (qOf b) l ≡ true → Elements w.q l
-  are-elements below = rw (q-is b w) at (all-below-at (qOf b) l below)
+  are_elements : all_below (q_of b) l ≡ true → Elements w.q l
+  are_elements below = rw (q_is b w) at (all_below_at (q_of b) l below)
 
-  are-below : Elements w.q l → allBelow (qOf b) l ≡ true
-  are-below elements = at-all-below (qOf b) l (rw (q-is b w) elements)
+  are_below : Elements w.q l → all_below (q_of b) l ≡ true
+  are_below elements = at_all_below (q_of b) l (rw (q_is b w) elements)
 
 -- no 2 for a length that is a well-formed system's n or m
-same-lengths : (a n w : ℕ) → a ≡ w → n ≡ w → unless (eqb a n) 2 ≡ 0
-same-lengths a n w long is = unless-holds (eqb a n) 2 (eq-eqb a n (long ∙ sym is))
+same_lengths : (a n w : ℕ) → a ≡ w → n ≡ w → unless (eqb a n) 2 ≡ 0
+same_lengths a n w long is = unless_holds (eqb a n) 2 (eq-eqb a n (long ∙ sym is))
 
 -- ---- evaluate
 
-pub evaluate-not-refused : (b x : List ℕ) (out : ℕ) → Evaluable b x out → evaluateRefusal b x out ≡ 0
-unfolding evaluateRefusal
-evaluate-not-refused b x out k =
+pub evaluate_not_refused : (b x : List ℕ) (out : ℕ) → Evaluable b x out → evaluate_refusal b x out ≡ 0
+unfolding evaluate_refusal
+evaluate_not_refused b x out k =
     let w = k.system in
-    both-zero _ _ (not-refused b w)
-    (both-zero _ _
-    (both-zero _ _ (same-lengths _ _ _ k.x-length (n-is b w)) (same-lengths _ _ _ k.out-length (m-is b w)))
-    (unless-holds _ 3 (are-below b w x k.x-elements)))
+    both_zero _ _ (not_refused b w)
+    (both_zero _ _
+    (both_zero _ _ (same_lengths _ _ _ k.x_length (n_is b w)) (same_lengths _ _ _ k.out_length (m_is b w)))
+    (unless_holds _ 3 (are_below b w x k.x_elements)))
 
-pub evaluable : (b x : List ℕ) (out : ℕ) → evaluateRefusal b x out ≡ 0 → Evaluable b x out
-unfolding evaluateRefusal
+pub evaluable : (b x : List ℕ) (out : ℕ) → evaluate_refusal b x out ≡ 0 → Evaluable b x out
+unfolding evaluate_refusal
 evaluable b x out none =
-    let w = well-formed b (evaluate-system b x out none) in
+    let w = well_formed b (evaluate_system b x out none) in
     record {
       system = w;
-      x-length = evaluate-x b x out none ∙ n-is b w;
-      x-elements = are-elements b w x (test-holds (allBelow (qOf b) x) 3 tt (later-zero _ _ (later-zero _ _ none)));
-      out-length = evaluate-out b x out none ∙ m-is b w;
+      x_length = evaluate_x b x out none ∙ n_is b w;
+      x_elements = are_elements b w x (test_holds (all_below (q_of b) x) 3 tt (later_zero _ _ (later_zero _ _ none)));
+      out_length = evaluate_out b x out none ∙ m_is b w;
     }
 
 -- ---- polar
 
-pub polar-not-refused : (b x y : List ℕ) (out : ℕ) → Polarisable b x y out → polarRefusal b x y out ≡ 0
-unfolding polarRefusal
-polar-not-refused b x y out k =
+pub polar_not_refused : (b x y : List ℕ) (out : ℕ) → Polarisable b x y out → polar_refusal b x y out ≡ 0
+unfolding polar_refusal
+polar_not_refused b x y out k =
     let w = k.system in
-    both-zero _ _ (not-refused b w)
-    (both-zero _ _
-    (both-zero _ _ (same-lengths _ _ _ k.x-length (n-is b w))
-    (both-zero _ _ (same-lengths _ _ _ k.y-length (n-is b w)) (same-lengths _ _ _ k.out-length (m-is b w))))
-    (both-zero _ _ (unless-holds _ 3 (are-below b w x k.x-elements)) (unless-holds _ 3 (are-below b w y k.y-elements))))
+    both_zero _ _ (not_refused b w)
+    (both_zero _ _
+    (both_zero _ _ (same_lengths _ _ _ k.x_length (n_is b w))
+    (both_zero _ _ (same_lengths _ _ _ k.y_length (n_is b w)) (same_lengths _ _ _ k.out_length (m_is b w))))
+    (both_zero _ _ (unless_holds _ 3 (are_below b w x k.x_elements)) (unless_holds _ 3 (are_below b w y k.y_elements))))
 
-pub polarisable : (b x y : List ℕ) (out : ℕ) → polarRefusal b x y out ≡ 0 → Polarisable b x y out
-unfolding polarRefusal
+pub polarisable : (b x y : List ℕ) (out : ℕ) → polar_refusal b x y out ≡ 0 → Polarisable b x y out
+unfolding polar_refusal
 polarisable b x y out none =
-    let w = well-formed b (polar-system b x y out none) in
-    let elements = later-zero _ _ (later-zero _ _ none) in
+    let w = well_formed b (polar_system b x y out none) in
+    let elements = later_zero _ _ (later_zero _ _ none) in
     record {
       system = w;
-      x-length = polar-x b x y out none ∙ n-is b w;
-      x-elements = are-elements b w x (test-holds (allBelow (qOf b) x) 3 tt (first-zero _ _ elements));
-      y-length = polar-y b x y out none ∙ n-is b w;
-      y-elements = are-elements b w y (test-holds (allBelow (qOf b) y) 3 tt (later-zero _ _ elements));
-      out-length = polar-out b x y out none ∙ m-is b w;
+      x_length = polar_x b x y out none ∙ n_is b w;
+      x_elements = are_elements b w x (test_holds (all_below (q_of b) x) 3 tt (first_zero _ _ elements));
+      y_length = polar_y b x y out none ∙ n_is b w;
+      y_elements = are_elements b w y (test_holds (all_below (q_of b) y) 3 tt (later_zero _ _ elements));
+      out_length = polar_out b x y out none ∙ m_is b w;
     }
 
 -- ---- there are right calls: K12, "q = 251, f = (1,0): F(250)", and K11, "q = 2, f = (1,0): G(1,1)"
 
-pub evaluable-K12 : Evaluable (251 ∷ 1 ∷ 1 ∷ 1 ∷ 0 ∷ []) (250 ∷ []) 1
-unfolding evaluateRefusal systemRefusal areSizes isSize systemLength width isField allBelow unless ◌orElse◌
-evaluable-K12 = evaluable _ _ _ refl
+pub evaluable_k12 : Evaluable (251 ∷ 1 ∷ 1 ∷ 1 ∷ 0 ∷ []) (250 ∷ []) 1
+unfolding evaluate_refusal system_refusal are_sizes is_size system_length width is_field all_below unless ◌or_else◌
+evaluable_k12 = evaluable _ _ _ refl
 
-pub polarisable-K11 : Polarisable (2 ∷ 1 ∷ 1 ∷ 1 ∷ 0 ∷ []) (1 ∷ []) (1 ∷ []) 1
-unfolding polarRefusal systemRefusal areSizes isSize systemLength width isField allBelow unless ◌orElse◌
-polarisable-K11 = polarisable _ _ _ _ refl
+pub polarisable_k11 : Polarisable (2 ∷ 1 ∷ 1 ∷ 1 ∷ 0 ∷ []) (1 ∷ []) (1 ∷ []) 1
+unfolding polar_refusal system_refusal are_sizes is_size system_length width is_field all_below unless ◌or_else◌
+polarisable_k11 = polarisable _ _ _ _ refl

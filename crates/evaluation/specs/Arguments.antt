@@ -7,15 +7,15 @@ use Rattle.system.specs.System.{WellFormedSystem}
 -- x has n elements; "Outputs count as arguments with an exact length": m bytes
 pub record Evaluable (b x : List ℕ) (out : ℕ) : Type 0 where
   pub system : WellFormedSystem b
-  pub x-length : length x ≡ system.n
-  pub x-elements : Elements system.q x
-  pub out-length : out ≡ system.m
+  pub x_length : length x ≡ system.n
+  pub x_elements : Elements system.q x
+  pub out_length : out ≡ system.m
 
 -- the same with x and y
 pub record Polarisable (b x y : List ℕ) (out : ℕ) : Type 0 where
   pub system : WellFormedSystem b
-  pub x-length : length x ≡ system.n
-  pub x-elements : Elements system.q x
-  pub y-length : length y ≡ system.n
-  pub y-elements : Elements system.q y
-  pub out-length : out ≡ system.m
+  pub x_length : length x ≡ system.n
+  pub x_elements : Elements system.q x
+  pub y_length : length y ≡ system.n
+  pub y_elements : Elements system.q y
+  pub out_length : out ≡ system.m

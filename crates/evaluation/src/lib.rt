@@ -7,8 +7,8 @@
 
 ghost use Rattle.std.specs.Prelude.{◌≡◌, length, take};
 ghost use Rattle.refusal.specs.Refusal.{kept};
-ghost use Rattle.system.specs.System.{mOf, F, G};
-ghost use Rattle.evaluation.specs.Entry.{evaluateRefusal, polarRefusal};
+ghost use Rattle.system.specs.System.{m_of, F, G};
+ghost use Rattle.evaluation.specs.Entry.{evaluate_refusal, polar_refusal};
 
 use field::{all_below, from_slice};
 use polynomials::{f, g};
@@ -18,7 +18,7 @@ use system::check;
 
 // The system's own refusal, then 2 for an x or an output of another length, then 3 for an element of x.
 fn evaluate_refusal<'a>(system: &'a [u8], x: &'a [u8], out_len: usize) -> u8
-    ensures { result ≡ evaluateRefusal system.now x.now out_len }
+    ensures { result ≡ evaluate_refusal system.now x.now out_len }
 {
     let q = byte_at(system, 0);
     let n = byte_at(system, 1) as usize;
@@ -29,8 +29,8 @@ fn evaluate_refusal<'a>(system: &'a [u8], x: &'a [u8], out_len: usize) -> u8
 
 // Writes F(x) to out. x has n bytes and out m.
 pub fn evaluate<'a>(system: &'a [u8], x: &'a [u8], out: &mut [u8]) -> u8
-    ensures { (result ≡ evaluateRefusal system.now x.now (length out.old))
-        × (out.new ≡ kept result out.old (take (mOf system.now) (F system.now x.now))) }
+    ensures { (result ≡ evaluate_refusal system.now x.now (length out.old))
+        × (out.new ≡ kept result out.old (take (m_of system.now) (F system.now x.now))) }
 {
     let refused = evaluate_refusal(system, x, out.len());
     if refused != 0 {
@@ -44,7 +44,7 @@ pub fn evaluate<'a>(system: &'a [u8], x: &'a [u8], out: &mut [u8]) -> u8
 
 // The same with two arguments: the lengths of x, y and the output, then the elements of x and of y.
 fn polar_refusal<'a>(system: &'a [u8], x: &'a [u8], y: &'a [u8], out_len: usize) -> u8
-    ensures { result ≡ polarRefusal system.now x.now y.now out_len }
+    ensures { result ≡ polar_refusal system.now x.now y.now out_len }
 {
     let q = byte_at(system, 0);
     let n = byte_at(system, 1) as usize;
@@ -59,8 +59,8 @@ fn polar_refusal<'a>(system: &'a [u8], x: &'a [u8], y: &'a [u8], out_len: usize)
 
 // Writes G(x, y) to out. x and y have n bytes and out m.
 pub fn polar<'a>(system: &'a [u8], x: &'a [u8], y: &'a [u8], out: &mut [u8]) -> u8
-    ensures { (result ≡ polarRefusal system.now x.now y.now (length out.old))
-        × (out.new ≡ kept result out.old (take (mOf system.now) (G system.now x.now y.now))) }
+    ensures { (result ≡ polar_refusal system.now x.now y.now (length out.old))
+        × (out.new ≡ kept result out.old (take (m_of system.now) (G system.now x.now y.now))) }
 {
     let refused = polar_refusal(system, x, y, out.len());
     if refused != 0 {

@@ -1,6 +1,6 @@
 // The judgement of a round.
 ghost use Rattle.std.specs.Prelude.{◌≡◌};
-ghost use Rattle.system.specs.System.{systemRefusal};
+ghost use Rattle.system.specs.System.{system_refusal};
 ghost use Rattle.exchange.specs.Messages.{accepts};
 
 use crate::read::{read_middle, read_reply_five, read_reply_three};
@@ -19,7 +19,7 @@ pub fn judge<'a>(
     challenge: u8,
     reply: &'a [u8],
 ) -> bool
-    requires { systemRefusal system.now ≡ 0 }
+    requires { system_refusal system.now ≡ 0 }
     ensures { result ≡ accepts system.now d v commitments.now turn.now challenge reply.now }
 {
     let n = byte_at(system, 1);

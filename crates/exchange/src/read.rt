@@ -1,6 +1,6 @@
 // Messages taken apart.
 ghost use Rattle.std.specs.Prelude.{◌≡◌};
-ghost use Rattle.exchange.specs.Messages.{lentIn, middleIn, replyThreeIn, replyFiveIn};
+ghost use Rattle.exchange.specs.Messages.{lent_in, middle_in, reply_three_in, reply_five_in};
 
 use field::slot;
 use round::{Middle, ReplyFive, ReplyThree, Rhos};
@@ -8,7 +8,7 @@ use slices::bytes32;
 
 // t1 and e1, behind α.
 pub fn read_middle(s: &[u8], n: u8, m: u8) -> Middle
-    ensures { result ≡ middleIn n m s.now }
+    ensures { result ≡ middle_in n m s.now }
 {
     Middle {
         t1: slot(s, 1, n),
@@ -18,7 +18,7 @@ pub fn read_middle(s: &[u8], n: u8, m: u8) -> Middle
 
 // A reply of three passes.
 pub fn read_reply_three(s: &[u8], n: u8, m: u8) -> ReplyThree
-    ensures { result ≡ replyThreeIn n m s.now }
+    ensures { result ≡ reply_three_in n m s.now }
 {
     let after_x = n as usize;
     let after_y = after_x + n as usize;
@@ -34,7 +34,7 @@ pub fn read_reply_three(s: &[u8], n: u8, m: u8) -> ReplyThree
 
 // A reply of five passes.
 pub fn read_reply_five(s: &[u8], n: u8) -> ReplyFive
-    ensures { result ≡ replyFiveIn n s.now }
+    ensures { result ≡ reply_five_in n s.now }
 {
     ReplyFive {
         x: slot(s, 0, n),
@@ -52,7 +52,7 @@ pub struct Lent {
 }
 
 pub fn read_lent(s: &[u8], n: u8, m: u8) -> Lent
-    ensures { result ≡ lentIn n m s.now }
+    ensures { result ≡ lent_in n m s.now }
 {
     let after_r0 = n as usize;
     let after_t0 = after_r0 + n as usize;

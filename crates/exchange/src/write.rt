@@ -2,8 +2,8 @@
 ghost use Rattle.std.specs.Prelude.{◌≡◌, ◌+◌, ◌≤◌, length, take};
 ghost use Rattle.slices.specs.Slices.{placed};
 ghost use Rattle.scheme.specs.declared.Scheme.TheVariants.{ThreePass, FivePass};
-ghost use Rattle.scheme.specs.Scheme.{commitmentsLength, rhosLength, replyLength};
-ghost use Rattle.exchange.specs.Messages.{threeCommitments, fiveCommitments, replyThreeBytes, middleBytes, replyFiveBytes};
+ghost use Rattle.scheme.specs.Scheme.{commitments_length, rhos_length, reply_length};
+ghost use Rattle.exchange.specs.Messages.{three_commitments, five_commitments, reply_three_bytes, middle_bytes, reply_five_bytes};
 
 use round::{CommitmentsFive, CommitmentsThree, Middle, ReplyFive, ReplyThree};
 use slices::put;
@@ -26,8 +26,8 @@ fn put_bytes(out: &mut [u8], at: usize, b: [u8; 32])
 
 // c0, c1 and c2 of three passes.
 pub fn write_three_commitments(c: CommitmentsThree, out: &mut [u8])
-    requires { length out.old ≡ commitmentsLength ThreePass }
-    ensures { out.new ≡ threeCommitments c }
+    requires { length out.old ≡ commitments_length ThreePass }
+    ensures { out.new ≡ three_commitments c }
 {
     let c0 = c.c0;
     let c1 = c.c1;
@@ -39,8 +39,8 @@ pub fn write_three_commitments(c: CommitmentsThree, out: &mut [u8])
 
 // A reply of three passes.
 pub fn write_reply_three(r: ReplyThree, n: u8, m: u8, out: &mut [u8])
-    requires { (n ≤ 96) × (m ≤ 96) × (length out.old ≡ replyLength ThreePass n m) }
-    ensures { out.new ≡ replyThreeBytes n m r }
+    requires { (n ≤ 96) × (m ≤ 96) × (length out.old ≡ reply_length ThreePass n m) }
+    ensures { out.new ≡ reply_three_bytes n m r }
 {
     let after_x = n as usize;
     let after_y = after_x + n as usize;
@@ -59,8 +59,8 @@ pub fn write_reply_three(r: ReplyThree, n: u8, m: u8, out: &mut [u8])
 
 // c0 and c1 of five passes.
 pub fn write_five_commitments(c: CommitmentsFive, out: &mut [u8])
-    requires { length out.old ≡ commitmentsLength FivePass }
-    ensures { out.new ≡ fiveCommitments c }
+    requires { length out.old ≡ commitments_length FivePass }
+    ensures { out.new ≡ five_commitments c }
 {
     let c0 = c.c0;
     let c1 = c.c1;
@@ -71,7 +71,7 @@ pub fn write_five_commitments(c: CommitmentsFive, out: &mut [u8])
 // t1 and e1.
 pub fn write_middle(sent: Middle, n: u8, m: u8, out: &mut [u8])
     requires { (n ≤ 96) × (m ≤ 96) × (length out.old ≡ n + m) }
-    ensures { out.new ≡ middleBytes n m sent }
+    ensures { out.new ≡ middle_bytes n m sent }
 {
     let t1 = sent.t1;
     let e1 = sent.e1;
@@ -81,8 +81,8 @@ pub fn write_middle(sent: Middle, n: u8, m: u8, out: &mut [u8])
 
 // A reply of five passes.
 pub fn write_reply_five(r: ReplyFive, n: u8, out: &mut [u8])
-    requires { (n ≤ 96) × (length out.old ≡ n + rhosLength FivePass) }
-    ensures { out.new ≡ replyFiveBytes n r }
+    requires { (n ≤ 96) × (length out.old ≡ n + rhos_length FivePass) }
+    ensures { out.new ≡ reply_five_bytes n r }
 {
     let x = r.x;
     let rho = r.rho;

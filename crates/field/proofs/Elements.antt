@@ -1,4 +1,4 @@
--- `allBelow` is the test of `Elements`, and what is read of a list of elements is one, beyond the end too. Assumes nothing.
+-- `all_below` is the test of `Elements`, and what is read of a list of elements is one, beyond the end too. Assumes nothing.
 use Prim.Native.Nat.{ℕ, zero, suc, ◌<◌}
 use mathlib.Core.Path.{◌≡◌, refl}
 use mathlib.Core.Bool.{true}
@@ -10,27 +10,27 @@ use lib.Dec.{ltb}
 use lib.ListN.{length, get_or-eq_default}
 use borrow.Author.Tests.{ltb-true, lt-ltb}
 use Rattle.slices.specs.Slices.{◌!◌}
-use Rattle.slices.proofs.Booleans.{and-left, and-right}
-use Rattle.field.specs.Vector.{Elements, allBelow}
+use Rattle.slices.proofs.Booleans.{and_left, and_right}
+use Rattle.field.specs.Vector.{Elements, all_below}
 
-pub at-all-below : (q : ℕ) (s : List ℕ) → Elements q s → allBelow q s ≡ true
-unfolding allBelow
-at-all-below q [] each = refl
-at-all-below q (x ∷ s) each =
+pub at_all_below : (q : ℕ) (s : List ℕ) → Elements q s → all_below q s ≡ true
+unfolding all_below
+at_all_below q [] each = refl
+at_all_below q (x ∷ s) each =
     let first = each 0 (omega arith) in
-    rw (lt-ltb x q (omega (arith, first)), at-all-below q s (λ i h. each (suc i) (omega arith)))
+    rw (lt-ltb x q (omega (arith, first)), at_all_below q s (λ i h. each (suc i) (omega arith)))
 
-pub all-below-at : (q : ℕ) (s : List ℕ) → allBelow q s ≡ true → Elements q s
-unfolding allBelow
-all-below-at q [] e i h = absurd (not-suc-le-zero h)
-all-below-at q (x ∷ s) e zero h = ltb-true x q (and-left (ltb x q) (allBelow q s) e)
-all-below-at q (x ∷ s) e (suc i) h = all-below-at q s (and-right (ltb x q) (allBelow q s) e) i (le_of_suc-le-suc h)
+pub all_below_at : (q : ℕ) (s : List ℕ) → all_below q s ≡ true → Elements q s
+unfolding all_below
+all_below_at q [] e i h = absurd (not-suc-le-zero h)
+all_below_at q (x ∷ s) e zero h = ltb-true x q (and_left (ltb x q) (all_below q s) e)
+all_below_at q (x ∷ s) e (suc i) h = all_below_at q s (and_right (ltb x q) (all_below q s) e) i (le_of_suc-le-suc h)
 
-pub below-append : (q : ℕ) (s t : List ℕ) → allBelow q s ≡ true → allBelow q t ≡ true → allBelow q (s ++ t) ≡ true
-unfolding allBelow
-below-append q [] t hs ht = ht
-below-append q (x ∷ s) t hs ht =
-    rw (and-left (ltb x q) (allBelow q s) hs, below-append q s t (and-right (ltb x q) (allBelow q s) hs) ht)
+pub below_append : (q : ℕ) (s t : List ℕ) → all_below q s ≡ true → all_below q t ≡ true → all_below q (s ++ t) ≡ true
+unfolding all_below
+below_append q [] t hs ht = ht
+below_append q (x ∷ s) t hs ht =
+    rw (and_left (ltb x q) (all_below q s) hs, below_append q s t (and_right (ltb x q) (all_below q s) hs) ht)
 
 -- beyond the end there is 0, an element too
 pub everywhere : (q : ℕ) (s : List ℕ) → 0 < q → Elements q s → (i : ℕ) → s ! i < q

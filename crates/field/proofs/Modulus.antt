@@ -5,56 +5,56 @@ use mathlib.Core.Bool.{Bool, true, false, false≢true}
 use native.Mathlib.Nat.{mod-lt, mod-one, mul-le-mul, pos_of_ne-zero}
 use lib.Dec.{lit<, lit≤}
 use borrow.Author.Tests.{ne_eqb}
-use Rattle.field.specs.Ops.{isField, modulus, ops}
+use Rattle.field.specs.Ops.{is_field, modulus, ops}
 
-pub modulus-field : (q : ℕ) → isField q ≡ true → modulus q ≡ q
+pub modulus_field : (q : ℕ) → is_field q ≡ true → modulus q ≡ q
 unfolding modulus
-modulus-field q h = simp h
+modulus_field q h = simp h
 
 -- in the field of two elements a sum is its last bit
-pub modulus-two : (q : ℕ) → q ≡ 2 → 2 ≡ modulus q
-unfolding modulus isField
-modulus-two q e = rw e
+pub modulus_two : (q : ℕ) → q ≡ 2 → 2 ≡ modulus q
+unfolding modulus is_field
+modulus_two q e = rw e
 
 -- the elements of a field's q are the numbers below it
-pub size-of : (q : ℕ) → isField q ≡ true → (ops q).size ≡ q
+pub size_of : (q : ℕ) → is_field q ≡ true → (ops q).size ≡ q
 unfolding ops
-size-of = modulus-field
+size_of = modulus_field
 
-pub modulus-other : (q : ℕ) → isField q ≡ false → modulus q ≡ 1
+pub modulus_other : (q : ℕ) → is_field q ≡ false → modulus q ≡ 1
 unfolding modulus
-modulus-other q h = simp h
+modulus_other q h = simp h
 
 -- the remainder for a q that is no field's
-pub other-remainder : (q x : ℕ) → isField q ≡ false → 0 ≡ x % modulus q
-other-remainder q x h = sym (ap (λ (k : ℕ). x % k) (modulus-other q h) ∙ mod-one x)
+pub other_remainder : (q x : ℕ) → is_field q ≡ false → 0 ≡ x % modulus q
+other_remainder q x h = sym (ap (λ (k : ℕ). x % k) (modulus_other q h) ∙ mod-one x)
 
-pub not-field : (q : ℕ) → (q ≡ 2 → ⊥) → (q ≡ 7 → ⊥) → (q ≡ 31 → ⊥) → (q ≡ 251 → ⊥) → isField q ≡ false
-unfolding isField
-not-field q a b c d = simp (ne_eqb q 2 a, ne_eqb q 7 b, ne_eqb q 31 c, ne_eqb q 251 d)
+pub not_field : (q : ℕ) → (q ≡ 2 → ⊥) → (q ≡ 7 → ⊥) → (q ≡ 31 → ⊥) → (q ≡ 251 → ⊥) → is_field q ≡ false
+unfolding is_field
+not_field q a b c d = simp (ne_eqb q 2 a, ne_eqb q 7 b, ne_eqb q 31 c, ne_eqb q 251 d)
 
-zero-no-field : (q : ℕ) → isField q ≡ true → q ≡ 0 → ⊥
-unfolding isField
-zero-no-field q h e = false≢true (rw e at h)
+zero_no_field : (q : ℕ) → is_field q ≡ true → q ≡ 0 → ⊥
+unfolding is_field
+zero_no_field q h e = false≢true (rw e at h)
 
-pub modulus-pos : (q : ℕ) → 0 < modulus q
-modulus-pos q = go (isField q) refl
+pub modulus_pos : (q : ℕ) → 0 < modulus q
+modulus_pos q = go (is_field q) refl
   where
-    go : (t : Bool) → isField q ≡ t → 0 < modulus q
-    go true e = rw (modulus-field q e) (pos_of_ne-zero (zero-no-field q e))
-    go false e = rw (modulus-other q e) (lit< tt)
+    go : (t : Bool) → is_field q ≡ t → 0 < modulus q
+    go true e = rw (modulus_field q e) (pos_of_ne-zero (zero_no_field q e))
+    go false e = rw (modulus_other q e) (lit< tt)
 
 -- a product of two bytes
-pub byte-product : (a b : ℕ) → a ≤ 255 → b ≤ 255 → a * b ≤ 65025
-byte-product a b ha hb = mul-le-mul ha hb
+pub byte_product : (a b : ℕ) → a ≤ 255 → b ≤ 255 → a * b ≤ 65025
+byte_product a b ha hb = mul-le-mul ha hb
 
 -- a remainder is below the modulus, which is a byte where q is one
-pub remainder-below : (q x : ℕ) → x % modulus q < modulus q
-remainder-below q x = mod-lt x (modulus-pos q)
+pub remainder_below : (q x : ℕ) → x % modulus q < modulus q
+remainder_below q x = mod-lt x (modulus_pos q)
 
-pub modulus-byte : (q : ℕ) → q ≤ 255 → modulus q ≤ 255
-modulus-byte q h = go (isField q) refl
+pub modulus_byte : (q : ℕ) → q ≤ 255 → modulus q ≤ 255
+modulus_byte q h = go (is_field q) refl
   where
-    go : (t : Bool) → isField q ≡ t → modulus q ≤ 255
-    go true e = rw (modulus-field q e) h
-    go false e = rw (modulus-other q e) (lit≤ tt)
+    go : (t : Bool) → is_field q ≡ t → modulus q ≤ 255
+    go true e = rw (modulus_field q e) h
+    go false e = rw (modulus_other q e) (lit≤ tt)

@@ -17,30 +17,30 @@ abbrev pub trial : ℕ → ℕ → Bool
 trial p zero = true
 trial p (suc d) = indivisible p (suc d) && trial p d
 
-and-left : (a b : Bool) → T (a && b) → T a
-and-left true b t = tt
-and-left false b t = t
+and_left : (a b : Bool) → T (a && b) → T a
+and_left true b t = tt
+and_left false b t = t
 
-and-right : (a b : Bool) → T (a && b) → T b
-and-right true b t = t
-and-right false b t = absurd t
+and_right : (a b : Bool) → T (a && b) → T b
+and_right true b t = t
+and_right false b t = absurd t
 
-at-most-one : (t : Bool) (p d : ℕ) → T (t || not (eqb (p % d) 0)) → d ∣ p → T t
-at-most-one true p d h dv = tt
-at-most-one false p d h dv = absurd (subst (λ (k : ℕ). T (not (eqb k 0))) (mod-eq-zero_of_dvd d dv) h)
+at_most_one : (t : Bool) (p d : ℕ) → T (t || not (eqb (p % d) 0)) → d ∣ p → T t
+at_most_one true p d h dv = tt
+at_most_one false p d h dv = absurd (subst (λ (k : ℕ). T (not (eqb k 0))) (mod-eq-zero_of_dvd d dv) h)
 
 tried : (p k d : ℕ) → T (trial p k) → 0 < d → d ≤ k → d ∣ p → d ≤ 1
 tried p zero d t pos h dv = absurd (omega arith)
 tried p (suc k) d t pos h dv =
-    ⊎_elim (λ (e : d ≡ suc k). rw e (leb→le (suc k) 1 (at-most-one (leb (suc k) 1) p (suc k) (and-left (indivisible p (suc k)) (trial p k) t) (rw e at dv))))
-    (λ (l : d < suc k). tried p k d (and-right (indivisible p (suc k)) (trial p k) t) pos (le_of_suc-le-suc l) dv)
+    ⊎_elim (λ (e : d ≡ suc k). rw e (leb→le (suc k) 1 (at_most_one (leb (suc k) 1) p (suc k) (and_left (indivisible p (suc k)) (trial p k) t) (rw e at dv))))
+    (λ (l : d < suc k). tried p k d (and_right (indivisible p (suc k)) (trial p k) t) pos (le_of_suc-le-suc l) dv)
     (eq-or-lt_of_le h)
 
-pub by-trial : (p : ℕ) → T (ltb 1 p) → T (trial p (p - 1)) → Prime p
-by-trial p above t =
+pub by_trial : (p : ℕ) → T (ltb 1 p) → T (trial p (p - 1)) → Prime p
+by_trial p above t =
     let one : 1 < p = ltb→lt 1 p above in
     record {
-      above-one = one;
+      above_one = one;
       divisors = λ d dv.
           let pos : 0 < d = pos_of_dvd_of_pos dv (omega arith) in
           let least : d ≤ p = le_of_dvd (omega arith) dv in

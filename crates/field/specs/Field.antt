@@ -8,10 +8,10 @@ module _ (o : Ops) where
 
   -- a commutative ring; the laws that ask for no element hold of every number, since the operations reduce what they are given
   pub record Ring : Type 0 where
-    pub zero-below : 0 < size
-    pub add-below : (a b : ℕ) → add a b < size
-    pub sub-below : (a b : ℕ) → sub a b < size
-    pub mul-below : (a b : ℕ) → mul a b < size
+    pub zero_below : 0 < size
+    pub add_below : (a b : ℕ) → add a b < size
+    pub sub_below : (a b : ℕ) → sub a b < size
+    pub mul_below : (a b : ℕ) → mul a b < size
     pub add_assoc : (a b c : ℕ) → add (add a b) c ≡ add a (add b c)
     pub add_comm : (a b : ℕ) → add a b ≡ add b a
     pub zero-add : (a : ℕ) → a < size → add 0 a ≡ a
@@ -30,5 +30,5 @@ module _ (o : Ops) where
   -- a field: 1 is an element, and every element but 0 has an inverse
   pub record Field : Type 0 where
     pub ring : Ring
-    pub one-below : 1 < size
+    pub one_below : 1 < size
     pub inverse : (a : ℕ) → a < size → (a ≡ 0 → ⊥) → Inverse a

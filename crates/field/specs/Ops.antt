@@ -10,8 +10,8 @@ pub record Ops : Type 0 where
   pub mul : ℕ → ℕ → ℕ
 
 -- "q is 2, 7, 31 or 251"
-unfoldable pub isField : ℕ → Bool
-isField q = eqb q 2 || (eqb q 7 || (eqb q 31 || eqb q 251))
+unfoldable pub is_field : ℕ → Bool
+is_field q = eqb q 2 || (eqb q 7 || (eqb q 31 || eqb q 251))
 
 -- "Sums, differences and products are remainders from 0 to q-1; 0-1 is q-1."
 unfoldable pub remainders : ℕ → Ops
@@ -24,7 +24,7 @@ remainders p = record {
 
 -- what is divided by: q itself, and 1 for a number that is no field's
 unfoldable pub modulus : ℕ → ℕ
-modulus q = cond (isField q) q 1
+modulus q = cond (is_field q) q 1
 
 -- the operations for q. Every entry refuses a q that is no field's; the definitions then have the one element 0
 unfoldable pub ops : ℕ → Ops

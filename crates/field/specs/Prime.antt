@@ -4,5 +4,5 @@ use Rattle.std.specs.Int.{◌∣◌}
 
 -- a number above 1 that only 1 and itself divide
 pub record Prime (p : ℕ) : Type 0 where
-  pub above-one : 1 < p
+  pub above_one : 1 < p
   pub divisors : (d : ℕ) → d ∣ p → (d ≡ 1) ⊎ (d ≡ p)

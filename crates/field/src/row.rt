@@ -1,6 +1,6 @@
 // Rows of bytes: whether all are elements.
 ghost use Rattle.std.specs.Prelude.{◌≡◌, max};
-ghost use Rattle.field.specs.Vector.{allBelow};
+ghost use Rattle.field.specs.Vector.{all_below};
 ghost use Rattle.field.specs.Row.{largest};
 
 fn larger(a: u8, b: u8) -> u8
@@ -24,7 +24,7 @@ fn largest_of(s: &[u8]) -> u8
 
 // Whether every byte is below q.
 pub fn all_below(q: u8, s: &[u8]) -> bool
-    ensures { result ≡ allBelow q s.now }
+    ensures { result ≡ all_below q s.now }
 {
     if s.len() == 0 {
         return true;

@@ -1,10 +1,10 @@
 // Elements: whether q is a field's, and the three operations.
 ghost use Rattle.std.specs.Prelude.{◌≡◌, ◌%◌};
-ghost use Rattle.field.specs.Ops.{isField, modulus, ops};
+ghost use Rattle.field.specs.Ops.{is_field, modulus, ops};
 
 // Whether q is one of the four.
 pub fn is_field(q: u8) -> bool
-    ensures { result ≡ isField q }
+    ensures { result ≡ is_field q }
 {
     match q {
         2 => true,

@@ -2,7 +2,7 @@
 ghost use Rattle.std.specs.Prelude.{◌≡◌, min, length};
 ghost use Rattle.field.specs.Ops.{ops};
 ghost use Rattle.slices.specs.Slices.{◌!◌};
-ghost use Rattle.field.specs.Vector.{vector, slotV, addV, subV, mulV};
+ghost use Rattle.field.specs.Vector.{vector, slot_v, add_v, sub_v, mul_v};
 ghost use Rattle.field.specs.Operation.{operation};
 
 use crate::scalar::{add, mul, sub};
@@ -39,7 +39,7 @@ pub fn from_slice(s: &[u8]) -> [u8; 96]
 
 // The vector of n elements that stands in s from `at` on.
 pub fn slot(s: &[u8], at: usize, n: u8) -> [u8; 96]
-    ensures { result ≡ slotV n «at» s.now }
+    ensures { result ≡ slot_v n «at» s.now }
 {
     from_slice(part(s, at, n as usize))
 }
@@ -68,20 +68,20 @@ fn each(o: Operation, q: u8, n: u8, x: [u8; 96], y: [u8; 96]) -> [u8; 96]
 }
 
 pub fn add_vectors(q: u8, n: u8, x: [u8; 96], y: [u8; 96]) -> [u8; 96]
-    ensures { result ≡ addV (ops q) n x y }
+    ensures { result ≡ add_v (ops q) n x y }
 {
     each(Operation::Sum, q, n, x, y)
 }
 
 pub fn sub_vectors(q: u8, n: u8, x: [u8; 96], y: [u8; 96]) -> [u8; 96]
-    ensures { result ≡ subV (ops q) n x y }
+    ensures { result ≡ sub_v (ops q) n x y }
 {
     each(Operation::Difference, q, n, x, y)
 }
 
 // The multiple of x by the element a.
 pub fn mul_vector(q: u8, n: u8, a: u8, x: [u8; 96]) -> [u8; 96]
-    ensures { result ≡ mulV (ops q) n a x }
+    ensures { result ≡ mul_v (ops q) n a x }
 {
     each(Operation::Product, q, n, [a; 96], x)
 }

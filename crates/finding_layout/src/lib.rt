@@ -2,7 +2,7 @@
 #![tactic(auto)]
 
 ghost use Rattle.std.specs.Prelude.{◌≡◌, length};
-ghost use Rattle.finding_layout.specs.FindingLayout.{kindBytes, textBytes, findingBytes};
+ghost use Rattle.finding_layout.specs.FindingLayout.{kind_bytes, text_bytes, finding_bytes};
 
 use auditing::{Audited, Finding};
 use commitment::Text;
@@ -10,7 +10,7 @@ use slices::{put_both, word};
 
 // Which finding it is, and what it says.
 fn kind_bytes(f: Finding) -> [u8; 4]
-    ensures { (result ≡ kindBytes f) × (length result ≡ 4) }
+    ensures { (result ≡ kind_bytes f) × (length result ≡ 4) }
 {
     match f {
         Finding::Secret => [1, 0, 0, 0],
@@ -21,7 +21,7 @@ fn kind_bytes(f: Finding) -> [u8; 4]
 
 // A string, its length before its bytes.
 fn text_bytes(t: Text) -> [u8; 326]
-    ensures { (result ≡ textBytes t) × (length result ≡ 326) }
+    ensures { (result ≡ text_bytes t) × (length result ≡ 326) }
 {
     let len = word(t.len);
     let bytes = t.bytes;
@@ -32,7 +32,7 @@ fn text_bytes(t: Text) -> [u8; 326]
 
 // What it is, the secret, then the two strings.
 pub fn finding_bytes(audited: Audited) -> [u8; 752]
-    ensures { (result ≡ findingBytes audited) × (length result ≡ 752) }
+    ensures { (result ≡ finding_bytes audited) × (length result ≡ 752) }
 {
     let finding = audited.finding;
     let secret = audited.secret;

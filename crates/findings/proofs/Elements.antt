@@ -7,96 +7,96 @@ use native.Mathlib.Omega.{arith}
 use lib.ListN.{length, drop}
 use lib.Seq.{get_or-take}
 use Rattle.slices.specs.Slices.{◌!◌}
-use Rattle.field.specs.Vector.{vector, slotV}
+use Rattle.field.specs.Vector.{vector, slot_v}
 use Rattle.field.proofs.Elements.{everywhere}
-use Rattle.field.proofs.Modulus.{size-of}
+use Rattle.field.proofs.Modulus.{size_of}
 use Rattle.field.proofs.Fields.{ring}
-use Rattle.system.specs.System.{qOf, nOf, mOf, opsOf, systemRefusal}
+use Rattle.system.specs.System.{q_of, n_of, m_of, ops_of, system_refusal}
 use Rattle.system.proofs.SystemLayout.{accepted}
 use Rattle.protocol.specs.Rounds.{IsX, IsY, IsScalar}
-use Rattle.protocol.proofs.SystemMap.{is-vector}
+use Rattle.protocol.proofs.SystemMap.{is_vector}
 use Rattle.scheme.specs.declared.Scheme.{Scheme}
 use Rattle.scheme.specs.declared.Scheme.TheVariants.{ThreePass, FivePass}
 use Rattle.commitment.specs.declared.Domain.{Domain}
-use Rattle.scheme.specs.Scheme.{turnLength, vectorsLength, rhosLength, replyLength}
+use Rattle.scheme.specs.Scheme.{turn_length, vectors_length, rhos_length, reply_length}
 use Rattle.record_form.specs.declared.layout.Header.{Header}
-use Rattle.record_form.specs.Record.{ValidExchange, layoutOf, replyOf, replyVectors, headerIn, fieldsIn}
-use Rattle.record.specs.Reader.{recordRefusal}
-use Rattle.record.proofs.RecordLayout.{not-refused, valid-fields}
-use Rattle.transcript.specs.Transcript.{domainIn, keyVector, roundExchange, roundTurn, roundReply}
-use Rattle.openings.specs.Openings.{replyVector}
+use Rattle.record_form.specs.Record.{ValidExchange, layout_of, reply_of, reply_vectors, header_in, fields_in}
+use Rattle.record.specs.Reader.{record_refusal}
+use Rattle.record.proofs.RecordLayout.{not_refused, valid_fields}
+use Rattle.transcript.specs.Transcript.{domain_in, key_vector, round_exchange, round_turn, round_reply}
+use Rattle.openings.specs.Openings.{reply_vector}
 use Rattle.findings.specs.Findings.{Auditable}
 
 -- ---- of any record
 
-vectors-room : (scheme : Scheme) (n m : ℕ) → n ≤ vectorsLength scheme n m
-unfolding vectorsLength
-vectors-room ThreePass n m = omega arith
-vectors-room FivePass n m = omega arith
+vectors_room : (scheme : Scheme) (n m : ℕ) → n ≤ vectors_length scheme n m
+unfolding vectors_length
+vectors_room ThreePass n m = omega arith
+vectors_room FivePass n m = omega arith
 
 -- an element of the reply's first vector is one of its elements
-reply-at : (h : Header) (exchange : List ℕ) (i : ℕ) → i < h.n → replyOf h exchange ! i ≡ replyVectors h exchange ! i
-unfolding replyOf replyVectors replyLength
-reply-at h exchange i below =
-    let room = vectors-room h.scheme h.n h.m in
-    let behind = drop (turnLength h.scheme h.n h.m + 1) exchange in
-    get_or-take (vectorsLength h.scheme h.n h.m + rhosLength h.scheme) behind i 0 (omega (arith, room, below)) ∙
-    sym (get_or-take (vectorsLength h.scheme h.n h.m) behind i 0 (omega (arith, room, below)))
+reply_at : (h : Header) (exchange : List ℕ) (i : ℕ) → i < h.n → reply_of h exchange ! i ≡ reply_vectors h exchange ! i
+unfolding reply_of reply_vectors reply_length
+reply_at h exchange i below =
+    let room = vectors_room h.scheme h.n h.m in
+    let behind = drop (turn_length h.scheme h.n h.m + 1) exchange in
+    get_or-take (vectors_length h.scheme h.n h.m + rhos_length h.scheme) behind i 0 (omega (arith, room, below)) ∙
+    sym (get_or-take (vectors_length h.scheme h.n h.m) behind i 0 (omega (arith, room, below)))
 
-valid-exchange : (b : List ℕ) → recordRefusal b ≡ 0 → (r : ℕ) → r < (headerIn b).rounds → ValidExchange (headerIn b) (roundExchange b r)
-unfolding roundExchange fieldsIn layoutOf
-valid-exchange b good r h = (valid-fields b good).each-exchange r h
+valid_exchange : (b : List ℕ) → record_refusal b ≡ 0 → (r : ℕ) → r < (header_in b).rounds → ValidExchange (header_in b) (round_exchange b r)
+unfolding round_exchange fields_in layout_of
+valid_exchange b good r h = (valid_fields b good).each_exchange r h
 
 -- ---- of an audited record
 
 -- the domain of a scheme
-abbrev pub domainFor : Scheme → Domain
-domainFor scheme = record { scheme = scheme }
+abbrev pub domain_for : Scheme → Domain
+domain_for scheme = record { scheme = scheme }
 
 module _ (scheme : Scheme) (system a b : List ℕ) where
   -- what stands before ρ is the same in their strings
-  pub same-domain : Auditable scheme system a b → domainIn a ≡ domainIn b
-  unfolding domainIn
-  same-domain k = λ i. record { scheme = (k.same-header i).scheme }
+  pub same_domain : Auditable scheme system a b → domain_in a ≡ domain_in b
+  unfolding domain_in
+  same_domain k = λ i. record { scheme = (k.same_header i).scheme }
 
   -- and it is that of the scheme which the audit is for
-  pub own-domain : Auditable scheme system a b → domainFor scheme ≡ domainIn b
-  unfolding domainIn
-  own-domain k = λ i. record { scheme = sym k.for-scheme i }
+  pub own_domain : Auditable scheme system a b → domain_for scheme ≡ domain_in b
+  unfolding domain_in
+  own_domain k = λ i. record { scheme = sym k.for_scheme i }
 
-  pub first-domain : Auditable scheme system a b → domainFor scheme ≡ domainIn a
-  first-domain k = own-domain k ∙ sym (same-domain k)
+  pub first_domain : Auditable scheme system a b → domain_for scheme ≡ domain_in a
+  first_domain k = own_domain k ∙ sym (same_domain k)
 
-  pub same-v : Auditable scheme system a b → keyVector b ≡ keyVector a
-  unfolding keyVector
-  same-v k = ap (λ (l : List ℕ). vector (length l) (λ i. l ! i)) (sym k.same-key)
+  pub same_v : Auditable scheme system a b → key_vector b ≡ key_vector a
+  unfolding key_vector
+  same_v k = ap (λ (l : List ℕ). vector (length l) (λ i. l ! i)) (sym k.same_key)
 
-  module _ (good : systemRefusal system ≡ 0) (k : Auditable scheme system a b) where
-    size-is : (opsOf system).size ≡ (headerIn b).q
-    size-is = size-of (qOf system) (accepted system good).is-field ∙ k.has-q
+  module _ (good : system_refusal system ≡ 0) (k : Auditable scheme system a b) where
+    size_is : (ops_of system).size ≡ (header_in b).q
+    size_is = size_of (q_of system) (accepted system good).q_is_field ∙ k.has_q
 
-    positive : 0 < (headerIn b).q
-    positive = rw (sym size-is) (ring (qOf system)).zero-below
+    positive : 0 < (header_in b).q
+    positive = rw (sym size_is) (ring (q_of system)).zero_below
 
-    pub v-is : IsY system (keyVector b)
-    unfolding keyVector fieldsIn layoutOf
-    v-is =
-        let valid = valid-fields b (not-refused b k.well-formed) in
-        let long : length (fieldsIn b).key ≡ mOf system = valid.key-length ∙ sym k.has-m in
-        rw long (is-vector (opsOf system) (ring (qOf system)) (mOf system) _ (λ i h. rw size-is (everywhere (headerIn b).q (fieldsIn b).key positive valid.key-elements i)))
+    pub v_is : IsY system (key_vector b)
+    unfolding key_vector fields_in layout_of
+    v_is =
+        let valid = valid_fields b (not_refused b k.well_formed) in
+        let long : length (fields_in b).key ≡ m_of system = valid.key_length ∙ sym k.has_m in
+        rw long (is_vector (ops_of system) (ring (q_of system)) (m_of system) _ (λ i h. rw size_is (everywhere (header_in b).q (fields_in b).key positive valid.key_elements i)))
 
-    pub x-is : (r : ℕ) → r < (headerIn b).rounds → IsX system (replyVector system b r)
-    unfolding replyVector slotV
-    x-is r h =
-        let valid = valid-exchange b (not-refused b k.well-formed) r h in
-        let vectors = replyVectors (headerIn b) (roundExchange b r) in
-        let read : (i : ℕ) → i < nOf system → roundReply b r ! (0 + i) ≡ vectors ! i =
-        λ i below. ap (λ (j : ℕ). roundReply b r ! j) (zero-add i) ∙ reply-at (headerIn b) (roundExchange b r) i (rw k.has-n at below)
+    pub x_is : (r : ℕ) → r < (header_in b).rounds → IsX system (reply_vector system b r)
+    unfolding reply_vector slot_v
+    x_is r h =
+        let valid = valid_exchange b (not_refused b k.well_formed) r h in
+        let vectors = reply_vectors (header_in b) (round_exchange b r) in
+        let read : (i : ℕ) → i < n_of system → round_reply b r ! (0 + i) ≡ vectors ! i =
+        λ i below. ap (λ (j : ℕ). round_reply b r ! j) (zero-add i) ∙ reply_at (header_in b) (round_exchange b r) i (rw k.has_n at below)
         in
-        is-vector (opsOf system) (ring (qOf system)) (nOf system) _ (λ i below.
-        subst (λ (x : ℕ). x < (opsOf system).size) (sym (read i below)) (rw size-is (everywhere (headerIn b).q vectors positive valid.reply-elements i)))
+        is_vector (ops_of system) (ring (q_of system)) (n_of system) _ (λ i below.
+        subst (λ (x : ℕ). x < (ops_of system).size) (sym (read i below)) (rw size_is (everywhere (header_in b).q vectors positive valid.reply_elements i)))
 
-    pub alpha-is : (r : ℕ) → r < (headerIn b).rounds → IsScalar system (roundTurn b r ! 0)
-    alpha-is r h =
-        let valid = valid-exchange b (not-refused b k.well-formed) r h in
-        rw size-is (everywhere (headerIn b).q (roundTurn b r) positive valid.turn-elements 0)
+    pub alpha_is : (r : ℕ) → r < (header_in b).rounds → IsScalar system (round_turn b r ! 0)
+    alpha_is r h =
+        let valid = valid_exchange b (not_refused b k.well_formed) r h in
+        rw size_is (everywhere (header_in b).q (round_turn b r) positive valid.turn_elements 0)

@@ -4,7 +4,7 @@
 #![tactic(auto)]
 
 ghost use Rattle.std.specs.Prelude.{◌≡◌, ◌||◌, eqb};
-ghost use Rattle.full_set.specs.FullSet.{answering as answeringOf, fullThree, askedBoth, fullFive, fullSet, firstFull};
+ghost use Rattle.full_set.specs.FullSet.{answering as answering_of, full_three, asked_both, full_five, full_set, first_full};
 
 use record::header_of;
 use scheme::Scheme;
@@ -13,7 +13,7 @@ use transcript::{round_challenge, round_turn};
 
 // The first of three records whose challenge in a round is the one given, the last where it is no other's.
 pub fn answering<'a>(a: &'a [u8], b: &'a [u8], c: &'a [u8], r: u8, challenge: u8) -> &'a [u8]
-    ensures { result.now ≡ answeringOf a.now b.now c.now r challenge }
+    ensures { result.now ≡ answering_of a.now b.now c.now r challenge }
 {
     if round_challenge(a, r) == challenge {
         return a;
@@ -39,7 +39,7 @@ fn is_one_of(x: u8, y: u8, z: u8, challenge: u8) -> bool
 
 // Three passes: challenges 0, 1, 2 in any order. Each record is asked once.
 fn full_three<'a>(a: &'a [u8], b: &'a [u8], c: &'a [u8], r: u8) -> bool
-    ensures { result ≡ fullThree a.now b.now c.now r }
+    ensures { result ≡ full_three a.now b.now c.now r }
 {
     let x = round_challenge(a, r);
     let y = round_challenge(b, r);
@@ -57,7 +57,7 @@ fn full_three<'a>(a: &'a [u8], b: &'a [u8], c: &'a [u8], r: u8) -> bool
 
 // Five passes: challenges 0, 1 after equal α, t1, e1.
 fn asked_both<'a>(x: &'a [u8], y: &'a [u8], r: u8) -> bool
-    ensures { result ≡ askedBoth x.now y.now r }
+    ensures { result ≡ asked_both x.now y.now r }
 {
     if round_challenge(x, r) == 0 {
         if round_challenge(y, r) == 1 {
@@ -72,7 +72,7 @@ fn asked_both<'a>(x: &'a [u8], y: &'a [u8], r: u8) -> bool
 
 // Five passes: both challenges after each of two different α.
 fn full_five<'a>(a: &'a [u8], b: &'a [u8], c: &'a [u8], d: &'a [u8], r: u8) -> bool
-    ensures { result ≡ fullFive a.now b.now c.now d.now r }
+    ensures { result ≡ full_five a.now b.now c.now d.now r }
 {
     if asked_both(a, b, r) {
         if asked_both(c, d, r) {
@@ -87,7 +87,7 @@ fn full_five<'a>(a: &'a [u8], b: &'a [u8], c: &'a [u8], d: &'a [u8], r: u8) -> b
 
 // Whether a round has the full set of its scheme.
 fn full_set<'a>(scheme: Scheme, a: &'a [u8], b: &'a [u8], c: &'a [u8], d: &'a [u8], r: u8) -> bool
-    ensures { result ≡ fullSet scheme a.now b.now c.now d.now r }
+    ensures { result ≡ full_set scheme a.now b.now c.now d.now r }
 {
     match scheme {
         Scheme::ThreePass => full_three(a, b, c, r),
@@ -97,7 +97,7 @@ fn full_set<'a>(scheme: Scheme, a: &'a [u8], b: &'a [u8], c: &'a [u8], d: &'a [u
 
 // The first round with a full set, counted from 1; 0 where there is none.
 pub fn first_full<'a>(scheme: Scheme, a: &'a [u8], b: &'a [u8], c: &'a [u8], d: &'a [u8]) -> u8
-    ensures { result ≡ firstFull scheme a.now b.now c.now d.now }
+    ensures { result ≡ first_full scheme a.now b.now c.now d.now }
 {
     let rounds = header_of(a).rounds;
     let mut r = 0;

@@ -4,14 +4,14 @@
 
 ghost use Rattle.std.specs.Prelude.{◌≡◌, ◌+◌, ◌*◌, ◌≤◌, ◌<◌, length};
 ghost use Rattle.slices.specs.Slices.{placed};
-ghost use Rattle.hex_text.specs.Hex.{hexDigit, hexByte, hex};
+ghost use Rattle.hex_text.specs.Hex.{hex_digit, hex_byte, hex};
 
 use text::append;
 
 // The ASCII code of a hexadecimal digit.
 fn hex_digit(k: u8) -> u8
     requires { k < 16 }
-    ensures { result ≡ hexDigit k }
+    ensures { result ≡ hex_digit k }
 {
     if k < 10 { 48 + k } else { 87 + k }
 }
@@ -19,7 +19,7 @@ fn hex_digit(k: u8) -> u8
 // Puts a byte's two digits.
 fn append_byte(text: &mut [u8], at: usize, byte: u8) -> usize
     requires { at + 2 ≤ length text.old }
-    ensures { (text.new ≡ placed text.old «at» (hexByte byte)) × (result ≡ at + length (hexByte byte)) × (result ≡ at + 2) }
+    ensures { (text.new ≡ placed text.old «at» (hex_byte byte)) × (result ≡ at + length (hex_byte byte)) × (result ≡ at + 2) }
 {
     let high = hex_digit(byte / 16);
     let low = hex_digit(byte % 16);

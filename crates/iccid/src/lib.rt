@@ -3,14 +3,14 @@
 
 ghost use Rattle.std.specs.Prelude.{◌≡◌, cond, ◌++◌, ◌+◌, ◌*◌, ◌/◌, ◌%◌, ◌≤◌, ◌<◌, length};
 ghost use Rattle.slices.specs.Slices.{tabulate, placed};
-ghost use Rattle.iccid.specs.Iccid.{halfDigit, labelDigits, halfOf, characterAt, byteFrom, hasLabel};
+ghost use Rattle.iccid.specs.Iccid.{half_digit, label_digits, half_of, character_at, byte_from, has_label};
 
 use text::append;
 
 // Puts a half's digit, nothing for F.
 fn append_half(text: &mut [u8], at: usize, half: u8) -> usize
     requires { (half < 16) × (at + 1 ≤ length text.old) }
-    ensures { (text.new ≡ placed text.old «at» (halfDigit half)) × (result ≡ at + length (halfDigit half)) × (result ≤ at + 1) }
+    ensures { (text.new ≡ placed text.old «at» (half_digit half)) × (result ≡ at + length (half_digit half)) × (result ≤ at + 1) }
 {
     if half == 15 {
         return at;
@@ -21,8 +21,8 @@ fn append_half(text: &mut [u8], at: usize, half: u8) -> usize
 // Puts the digits of a byte's halves, the low one first.
 fn append_halves(text: &mut [u8], at: usize, byte: u8) -> usize
     requires { at + 2 ≤ length text.old }
-    ensures { (text.new ≡ placed text.old «at» (halfDigit (byte % 16) ++ halfDigit (byte / 16)))
-        × (result ≡ at + length (halfDigit (byte % 16) ++ halfDigit (byte / 16))) × (result ≤ at + 2) }
+    ensures { (text.new ≡ placed text.old «at» (half_digit (byte % 16) ++ half_digit (byte / 16)))
+        × (result ≡ at + length (half_digit (byte % 16) ++ half_digit (byte / 16))) × (result ≤ at + 2) }
 {
     let next = append_half(text, at, byte % 16);
     append_half(text, next, byte / 16)
@@ -31,8 +31,8 @@ fn append_halves(text: &mut [u8], at: usize, byte: u8) -> usize
 // Puts the digits of a label.
 pub fn append_label(text: &mut [u8], at: usize, label: &[u8]) -> usize
     requires { at + 2 * length label.now ≤ length text.old }
-    ensures { (text.new ≡ placed text.old «at» (labelDigits label.now))
-        × (result ≡ at + length (labelDigits label.now)) × (result ≤ at + 2 * length label.now) }
+    ensures { (text.new ≡ placed text.old «at» (label_digits label.now))
+        × (result ≡ at + length (label_digits label.now)) × (result ≤ at + 2 * length label.now) }
 {
     let mut next = at;
     let mut i = 0;
@@ -44,9 +44,9 @@ pub fn append_label(text: &mut [u8], at: usize, label: &[u8]) -> usize
 }
 
 // The half that a character stands for; 10, which is wrong in every place, for none.
-#[tactic(auto, unfolding(crate::specs::Iccid::halfOf))]
+#[tactic(auto, unfolding(crate::specs::Iccid::half_of))]
 fn half_of(character: u8) -> u8
-    ensures { (result ≡ halfOf character) × (result < 16) }
+    ensures { (result ≡ half_of character) × (result < 16) }
 {
     if character == b'F' {
         return 15;
@@ -62,7 +62,7 @@ fn half_of(character: u8) -> u8
 
 // The character at place i, `F` behind the last.
 fn character_at(iccid: &[u8], i: usize) -> u8
-    ensures { result ≡ characterAt iccid.now i }
+    ensures { result ≡ character_at iccid.now i }
 {
     if i < iccid.len() { iccid[i] } else { b'F' }
 }
@@ -70,7 +70,7 @@ fn character_at(iccid: &[u8], i: usize) -> u8
 // Byte i of the label that the characters stand for.
 fn byte_from(iccid: &[u8], i: usize) -> u8
     requires { i < 10 }
-    ensures { result ≡ byteFrom iccid.now i }
+    ensures { result ≡ byte_from iccid.now i }
 {
     let low = half_of(character_at(iccid, 2 * i));
     let high = half_of(character_at(iccid, 2 * i + 1));
@@ -79,7 +79,7 @@ fn byte_from(iccid: &[u8], i: usize) -> u8
 
 // The ten bytes of a label from its characters.
 pub fn bytes_from(iccid: &[u8]) -> [u8; 10]
-    ensures { result ≡ tabulate 10 (byteFrom iccid.now) }
+    ensures { result ≡ tabulate 10 (byte_from iccid.now) }
 {
     [
         byte_from(iccid, 0),
@@ -97,7 +97,7 @@ pub fn bytes_from(iccid: &[u8]) -> [u8; 10]
 
 // How many bytes the label has: ten where there are twenty characters or nineteen, else none.
 pub fn label_length(iccid: &[u8]) -> usize
-    ensures { result ≡ cond (hasLabel iccid.now) 10 0 }
+    ensures { result ≡ cond (has_label iccid.now) 10 0 }
 {
     if iccid.len() == 20 {
         return 10;

@@ -8,8 +8,8 @@ use Rattle.sha256.specs.Sha256.{sha256}
 use Rattle.commitment.specs.declared.Domain.{Domain}
 use Rattle.commitment.specs.declared.Text.{Text}
 use Rattle.commitment.specs.Texts.{content, TextOf}
-use Rattle.commitment.proofs.Texts.{content-is}
-use Rattle.round.specs.Openings.{Opening, stringOf, commitmentAt, opensTo, allOpen, openingAt}
+use Rattle.commitment.proofs.Texts.{content_is}
+use Rattle.round.specs.Openings.{Opening, string_of, commitment_at, opens_to, all_open, opening_at}
 
 and-true : (a : Bool) → a ≡ (a && true)
 and-true true = refl
@@ -18,21 +18,21 @@ and-true false = refl
 module _ (d : Domain) (c : List ℕ) where
   -- the test of a text against commitment k
   abbrev tested : Text → ℕ → Bool
-  tested t k = same (sha256 (content t)) (commitmentAt c k)
+  tested t k = same (sha256 (content t)) (commitment_at c k)
 
-  judged : (o : Opening) (room : ℕ) (t : Text) (k : ℕ) → TextOf (stringOf d o) room t → k ≡ o.k → tested t k ≡ opensTo d c o
-  unfolding opensTo
-  judged o room t k h number = ap₂ (λ (s : List ℕ) (j : ℕ). same (sha256 s) (commitmentAt c j)) (content-is (stringOf d o) room t h) number
+  judged : (o : Opening) (room : ℕ) (t : Text) (k : ℕ) → TextOf (string_of d o) room t → k ≡ o.k → tested t k ≡ opens_to d c o
+  unfolding opens_to
+  judged o room t k h number = ap₂ (λ (s : List ℕ) (j : ℕ). same (sha256 s) (commitment_at c j)) (content_is (string_of d o) room t h) number
 
   -- of a list of one, and of a list of two
-  pub one-opens : (os : List Opening) → os ≡ openingAt os 0 ∷ [] → (t : Text) (k : ℕ) → TextOf (stringOf d (openingAt os 0)) 0 t → k ≡ (openingAt os 0).k →
-      tested t k ≡ allOpen d c os
-  unfolding allOpen
-  one-opens os one t k h number = judged (openingAt os 0) 0 t k h number ∙ and-true _ ∙ ap (allOpen d c) (sym one)
+  pub one_opens : (os : List Opening) → os ≡ opening_at os 0 ∷ [] → (t : Text) (k : ℕ) → TextOf (string_of d (opening_at os 0)) 0 t → k ≡ (opening_at os 0).k →
+      tested t k ≡ all_open d c os
+  unfolding all_open
+  one_opens os one t k h number = judged (opening_at os 0) 0 t k h number ∙ and-true _ ∙ ap (all_open d c) (sym one)
 
-  pub both-open : (os : List Opening) → os ≡ openingAt os 0 ∷ openingAt os 1 ∷ [] → (t u : Text) (j k : ℕ) →
-      TextOf (stringOf d (openingAt os 0)) 96 t → TextOf (stringOf d (openingAt os 1)) 96 u → j ≡ (openingAt os 0).k → k ≡ (openingAt os 1).k →
-      (tested t j && tested u k) ≡ allOpen d c os
-  unfolding allOpen
-  both-open os two t u j k ht hu first second =
-      ap₂ ◌&&◌ (judged (openingAt os 0) 96 t j ht first) (judged (openingAt os 1) 96 u k hu second ∙ and-true _) ∙ ap (allOpen d c) (sym two)
+  pub both_open : (os : List Opening) → os ≡ opening_at os 0 ∷ opening_at os 1 ∷ [] → (t u : Text) (j k : ℕ) →
+      TextOf (string_of d (opening_at os 0)) 96 t → TextOf (string_of d (opening_at os 1)) 96 u → j ≡ (opening_at os 0).k → k ≡ (opening_at os 1).k →
+      (tested t j && tested u k) ≡ all_open d c os
+  unfolding all_open
+  both_open os two t u j k ht hu first second =
+      ap₂ ◌&&◌ (judged (opening_at os 0) 96 t j ht first) (judged (opening_at os 1) 96 u k hu second ∙ and-true _) ∙ ap (all_open d c) (sym two)

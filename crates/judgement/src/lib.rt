@@ -7,10 +7,10 @@ ghost use Rattle.std.specs.Prelude.{◌≡◌, ◌&&◌};
 ghost use Rattle.slices.specs.Slices.{same};
 ghost use Rattle.sha256.specs.Sha256.{sha256};
 ghost use Rattle.commitment.specs.Texts.{content, Room};
-ghost use Rattle.system.specs.System.{systemRefusal};
-ghost use Rattle.round.specs.Openings.{commitmentAt, allOpen};
-ghost use Rattle.round.specs.ThreePass.{openingsThree};
-ghost use Rattle.round.specs.FivePass.{openingsFive};
+ghost use Rattle.system.specs.System.{system_refusal};
+ghost use Rattle.round.specs.Openings.{commitment_at, all_open};
+ghost use Rattle.round.specs.ThreePass.{openings_three};
+ghost use Rattle.round.specs.FivePass.{openings_five};
 
 use commitment::{Domain, Text, digest};
 use round::{Middle, ReplyFive, ReplyThree, first_opening, opening_five, second_opening};
@@ -25,7 +25,7 @@ fn both(a: bool, b: bool) -> bool
 // Whether a string hashes to commitment k.
 fn opens(t: Text, commitments: &[u8], k: u8) -> bool
     requires { Room 0 t }
-    ensures { result ≡ same (sha256 (content t)) (commitmentAt commitments.now k) }
+    ensures { result ≡ same (sha256 (content t)) (commitment_at commitments.now k) }
 {
     same32(digest(t), bytes32(commitments, 32 * k as usize))
 }
@@ -39,8 +39,8 @@ pub fn accepts_three<'a>(
     challenge: u8,
     reply: ReplyThree,
 ) -> bool
-    requires { systemRefusal system.now ≡ 0 }
-    ensures { result ≡ allOpen d commitments.now (openingsThree system.now v challenge reply) }
+    requires { system_refusal system.now ≡ 0 }
+    ensures { result ≡ all_open d commitments.now (openings_three system.now v challenge reply) }
 {
     let a = first_opening(system, d, v, challenge, reply);
     let b = second_opening(system, d, challenge, reply);
@@ -62,8 +62,8 @@ pub fn accepts_five<'a>(
     challenge: u8,
     reply: ReplyFive,
 ) -> bool
-    requires { systemRefusal system.now ≡ 0 }
-    ensures { result ≡ allOpen d commitments.now (openingsFive system.now alpha v sent challenge reply) }
+    requires { system_refusal system.now ≡ 0 }
+    ensures { result ≡ all_open d commitments.now (openings_five system.now alpha v sent challenge reply) }
 {
     let t = opening_five(system, d, alpha, v, sent, challenge, reply);
     match challenge {

@@ -8,15 +8,15 @@ use native.Mathlib.Omega.{arith}
 use lib.ListN.{length}
 use Rattle.slices.specs.Slices.{◌!◌}
 use Rattle.label.specs.Label.{halves, WellFormedLabel, Below, StrictTotal}
-use Rattle.label.proofs.Halves.{length-halves, same-halves}
-use Rattle.label.proofs.Labels.{RisesAt, rises-behind, rises-first}
+use Rattle.label.proofs.Halves.{length-halves, same_halves}
+use Rattle.label.proofs.Labels.{RisesAt, rises_behind, rises_first}
 
 -- no label is below itself
-pub not-below-itself : (a : List ℕ) → Below a a → ⊥
-not-below-itself a w = absurd (omega (arith, w.lower))
+pub not_below_itself : (a : List ℕ) → Below a a → ⊥
+not_below_itself a w = absurd (omega (arith, w.lower))
 
-pub below-trans : (a b c : List ℕ) → Below a b → Below b c → Below a c
-below-trans a b c v w =
+pub below_trans : (a b c : List ℕ) → Below a b → Below b c → Below a c
+below_trans a b c v w =
     elim (dec_lt v.place w.place) [
       | yes earlier ↦
           record {
@@ -55,31 +55,31 @@ compare (x ∷ xs) (y ∷ ys) long =
       | yes same ↦
           ⊎_elim (λ (rest : xs ≡ ys). inl (ap₂ ◌∷◌ same rest))
           (λ (r : RisesAt xs ys ⊎ RisesAt ys xs).
-          inr (⊎_elim (λ (up : RisesAt xs ys). inl (rises-behind x y xs ys same up)) (λ (down : RisesAt ys xs). inr (rises-behind y x ys xs (sym same) down)) r))
+          inr (⊎_elim (λ (up : RisesAt xs ys). inl (rises_behind x y xs ys same up)) (λ (down : RisesAt ys xs). inr (rises_behind y x ys xs (sym same) down)) r))
           (compare xs ys (omega (arith, long)))
       | no differ ↦
           elim (dec_lt x y) [
-            | yes less ↦ inr (inl (rises-first x y xs ys less))
-            | no more ↦ inr (inr (rises-first y x ys xs (omega (arith, differ, more))))
+            | yes less ↦ inr (inl (rises_first x y xs ys less))
+            | no more ↦ inr (inr (rises_first y x ys xs (omega (arith, differ, more))))
           ]
     ]
 
-below-of : (a b : List ℕ) → length a ≡ 10 → RisesAt (halves a) (halves b) → Below a b
-below-of a b ten r = let long = length-halves a in record { place = r.place; within = let h = r.within in omega (arith, h, long, ten); alike = r.alike; lower = r.lower }
+below_of : (a b : List ℕ) → length a ≡ 10 → RisesAt (halves a) (halves b) → Below a b
+below_of a b ten r = let long = length-halves a in record { place = r.place; within = let h = r.within in omega (arith, h, long, ten); alike = r.alike; lower = r.lower }
 
 pub trichotomy : (a b : List ℕ) → length a ≡ 10 → length b ≡ 10 → (a ≡ b) ⊎ (Below a b ⊎ Below b a)
-trichotomy a b ten-a ten-b =
-    let long-a = length-halves a in
-    let long-b = length-halves b in
-    ⊎_elim (λ (same : halves a ≡ halves b). inl (same-halves a b (ten-a ∙ sym ten-b) same))
+trichotomy a b ten_a ten_b =
+    let long_a = length-halves a in
+    let long_b = length-halves b in
+    ⊎_elim (λ (same : halves a ≡ halves b). inl (same_halves a b (ten_a ∙ sym ten_b) same))
     (λ (r : RisesAt (halves a) (halves b) ⊎ RisesAt (halves b) (halves a)).
-    inr (⊎_elim (λ (up : RisesAt (halves a) (halves b)). inl (below-of a b ten-a up)) (λ (down : RisesAt (halves b) (halves a)). inr (below-of b a ten-b down)) r))
-    (compare (halves a) (halves b) (omega (arith, long-a, long-b, ten-a, ten-b)))
+    inr (⊎_elim (λ (up : RisesAt (halves a) (halves b)). inl (below_of a b ten_a up)) (λ (down : RisesAt (halves b) (halves a)). inr (below_of b a ten_b down)) r))
+    (compare (halves a) (halves b) (omega (arith, long_a, long_b, ten_a, ten_b)))
 
-pub label-order : StrictTotal WellFormedLabel Below
-label-order =
+pub label_order : StrictTotal WellFormedLabel Below
+label_order =
     record {
-      irreflexive = λ a w. not-below-itself a;
-      transitive = λ a b c u v w. below-trans a b c;
-      total = λ a b v w. trichotomy a b v.ten-bytes w.ten-bytes;
+      irreflexive = λ a w. not_below_itself a;
+      transitive = λ a b c u v w. below_trans a b c;
+      total = λ a b v w. trichotomy a b v.ten_bytes w.ten_bytes;
     }

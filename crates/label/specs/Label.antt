@@ -9,7 +9,7 @@ halves (byte ∷ bytes) = byte % 16 ∷ byte / 16 ∷ halves bytes
 
 -- "ten-byte label"; "The twentieth half may be F; every other half is 0 to 9."
 pub record WellFormedLabel (l : List ℕ) : Type 0 where
-  pub ten-bytes : length l ≡ 10
+  pub ten_bytes : length l ≡ 10
   pub digits : (i : ℕ) → i < 19 → halves l ! i ≤ 9
   pub twentieth : (halves l ! 19 ≤ 9) ⊎ (halves l ! 19 ≡ 15)
 

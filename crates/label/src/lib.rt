@@ -4,11 +4,11 @@
 #![tactic(auto)]
 
 ghost use Rattle.std.specs.Prelude.{◌≡◌, ◌+◌, ◌*◌, ◌/◌, ◌%◌, ◌<◌};
-ghost use Rattle.label.specs.Tests.{isLabel, isBelow, areDigits, areLast};
+ghost use Rattle.label.specs.Tests.{is_label, is_below, are_digits, are_last};
 
 // Whether both halves of a byte are digits.
 fn are_digits(byte: u8) -> bool
-    ensures { result ≡ areDigits byte }
+    ensures { result ≡ are_digits byte }
 {
     if 9 < byte % 16 {
         return false;
@@ -21,7 +21,7 @@ const F: u8 = 15;
 
 // The same of the last byte, whose high half may be F too.
 fn are_last(byte: u8) -> bool
-    ensures { result ≡ areLast byte }
+    ensures { result ≡ are_last byte }
 {
     if byte / 16 == F {
         byte % 16 <= 9
@@ -32,7 +32,7 @@ fn are_last(byte: u8) -> bool
 
 // Whether the bytes are a label: ten, with no wrong half.
 pub fn is_label(bytes: &[u8]) -> bool
-    ensures { result ≡ isLabel bytes.now }
+    ensures { result ≡ is_label bytes.now }
 {
     if bytes.len() != 10 {
         return false;
@@ -57,7 +57,7 @@ fn in_order(byte: u8) -> u8
 
 // Whether label a stands before b: by the first digit in which they differ. Not where one of them has not ten bytes.
 pub fn is_below<'a>(a: &'a [u8], b: &'a [u8]) -> bool
-    ensures { result ≡ isBelow a.now b.now }
+    ensures { result ≡ is_below a.now b.now }
 {
     if a.len() != 10 {
         return false;

@@ -4,59 +4,59 @@ use mathlib.Core.Path.{◌≡◌, refl, sym, ap, ◌∙◌}
 use mathlib.Core.List.{List, [], ◌∷◌}
 use borrow.Author.Tests.{eq-eqb, ne_eqb}
 use Rattle.slices.specs.Slices.{◌!◌}
-use Rattle.system.specs.System.{nOf, mOf}
+use Rattle.system.specs.System.{n_of, m_of}
 use Rattle.scheme.specs.declared.Scheme.{Scheme}
 use Rattle.scheme.specs.declared.Scheme.TheVariants.{ThreePass, FivePass}
-use Rattle.round.specs.Openings.{Opening, stringOf, openingAt, openingOf}
-use Rattle.round.specs.ThreePass.{openingsThree}
-use Rattle.round.specs.FivePass.{openingsFive}
-use Rattle.round.proofs.Clauses.{five-is-one}
-use Rattle.exchange.specs.Messages.{middleIn, replyThreeIn, replyFiveIn, openings}
-use Rattle.record_form.specs.Record.{headerIn}
-use Rattle.transcript.specs.Transcript.{domainIn, keyVector, roundTurn, roundChallenge, roundReply, roundOpenings}
-use Rattle.openings.specs.Openings.{stringIn}
+use Rattle.round.specs.Openings.{Opening, string_of, opening_at, opening_of}
+use Rattle.round.specs.ThreePass.{openings_three}
+use Rattle.round.specs.FivePass.{openings_five}
+use Rattle.round.proofs.Clauses.{five_is_one}
+use Rattle.exchange.specs.Messages.{middle_in, reply_three_in, reply_five_in, openings}
+use Rattle.record_form.specs.Record.{header_in}
+use Rattle.transcript.specs.Transcript.{domain_in, key_vector, round_turn, round_challenge, round_reply, round_openings}
+use Rattle.openings.specs.Openings.{string_in}
 
 -- ---- of a list of two, and of one
 
-first-is : (k : ℕ) (o p : Opening) → k ≡ o.k → o ≡ openingOf k (o ∷ p ∷ [])
-unfolding openingOf
-first-is k o p e = simp (eq-eqb k o.k e)
+first_is : (k : ℕ) (o p : Opening) → k ≡ o.k → o ≡ opening_of k (o ∷ p ∷ [])
+unfolding opening_of
+first_is k o p e = simp (eq-eqb k o.k e)
 
-second-is : (k : ℕ) (o p : Opening) → (k ≡ o.k → ⊥) → p ≡ openingOf k (o ∷ p ∷ [])
-unfolding openingOf
-second-is k o p e = simp (ne_eqb k o.k e)
+second_is : (k : ℕ) (o p : Opening) → (k ≡ o.k → ⊥) → p ≡ opening_of k (o ∷ p ∷ [])
+unfolding opening_of
+second_is k o p e = simp (ne_eqb k o.k e)
 
-one-is : (k : ℕ) (o : Opening) → o ≡ openingOf k (o ∷ [])
-unfolding openingOf
-one-is k o = refl
+one_is : (k : ℕ) (o : Opening) → o ≡ opening_of k (o ∷ [])
+unfolding opening_of
+one_is k o = refl
 
 module _ (k : ℕ) (os : List Opening) where
-  pub first-of-two : os ≡ openingAt os 0 ∷ openingAt os 1 ∷ [] → k ≡ (openingAt os 0).k → openingAt os 0 ≡ openingOf k os
-  first-of-two two e = first-is k (openingAt os 0) (openingAt os 1) e ∙ ap (openingOf k) (sym two)
+  pub first_of_two : os ≡ opening_at os 0 ∷ opening_at os 1 ∷ [] → k ≡ (opening_at os 0).k → opening_at os 0 ≡ opening_of k os
+  first_of_two two e = first_is k (opening_at os 0) (opening_at os 1) e ∙ ap (opening_of k) (sym two)
 
-  pub second-of-two : os ≡ openingAt os 0 ∷ openingAt os 1 ∷ [] → (k ≡ (openingAt os 0).k → ⊥) → openingAt os 1 ≡ openingOf k os
-  second-of-two two e = second-is k (openingAt os 0) (openingAt os 1) e ∙ ap (openingOf k) (sym two)
+  pub second_of_two : os ≡ opening_at os 0 ∷ opening_at os 1 ∷ [] → (k ≡ (opening_at os 0).k → ⊥) → opening_at os 1 ≡ opening_of k os
+  second_of_two two e = second_is k (opening_at os 0) (opening_at os 1) e ∙ ap (opening_of k) (sym two)
 
-  one-of-one : os ≡ openingAt os 0 ∷ [] → openingAt os 0 ≡ openingOf k os
-  one-of-one one = one-is k (openingAt os 0) ∙ ap (openingOf k) (sym one)
+  one_of_one : os ≡ opening_at os 0 ∷ [] → opening_at os 0 ≡ opening_of k os
+  one_of_one one = one_is k (opening_at os 0) ∙ ap (opening_of k) (sym one)
 
 -- ---- of a round of a record
 
 module _ (system b : List ℕ) (r k : ℕ) where
-  abbrev openedBy : Scheme → List Opening
-  openedBy scheme = openings system scheme (keyVector b) (roundTurn b r) (roundChallenge b r) (roundReply b r)
+  abbrev opened_by : Scheme → List Opening
+  opened_by scheme = openings system scheme (key_vector b) (round_turn b r) (round_challenge b r) (round_reply b r)
 
-  pub three-in : (headerIn b).scheme ≡ ThreePass →
-      stringOf (domainIn b) (openingOf k (openingsThree system (keyVector b) (roundChallenge b r) (replyThreeIn (nOf system) (mOf system) (roundReply b r)))) ≡
-      stringIn system b r k
-  unfolding stringIn roundOpenings openings
-  three-in is = ap (λ (s : Scheme). stringOf (domainIn b) (openingOf k (openedBy s))) (sym is)
+  pub three_in : (header_in b).scheme ≡ ThreePass →
+      string_of (domain_in b) (opening_of k (openings_three system (key_vector b) (round_challenge b r) (reply_three_in (n_of system) (m_of system) (round_reply b r)))) ≡
+      string_in system b r k
+  unfolding string_in round_openings openings
+  three_in is = ap (λ (s : Scheme). string_of (domain_in b) (opening_of k (opened_by s))) (sym is)
 
-  pub five-in : (headerIn b).scheme ≡ FivePass →
-      stringOf (domainIn b)
-      (openingAt (openingsFive system (roundTurn b r ! 0) (keyVector b) (middleIn (nOf system) (mOf system) (roundTurn b r)) (roundChallenge b r)
-      (replyFiveIn (nOf system) (roundReply b r))) 0) ≡
-      stringIn system b r k
-  unfolding stringIn roundOpenings openings
-  five-in is =
-      ap (stringOf (domainIn b)) (one-of-one k _ (five-is-one system _ _ _ _ _)) ∙ ap (λ (s : Scheme). stringOf (domainIn b) (openingOf k (openedBy s))) (sym is)
+  pub five_in : (header_in b).scheme ≡ FivePass →
+      string_of (domain_in b)
+      (opening_at (openings_five system (round_turn b r ! 0) (key_vector b) (middle_in (n_of system) (m_of system) (round_turn b r)) (round_challenge b r)
+      (reply_five_in (n_of system) (round_reply b r))) 0) ≡
+      string_in system b r k
+  unfolding string_in round_openings openings
+  five_in is =
+      ap (string_of (domain_in b)) (one_of_one k _ (five_is_one system _ _ _ _ _)) ∙ ap (λ (s : Scheme). string_of (domain_in b) (opening_of k (opened_by s))) (sym is)

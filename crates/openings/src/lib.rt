@@ -4,13 +4,13 @@
 #![tactic(auto)]
 
 ghost use Rattle.std.specs.Prelude.{◌≡◌};
-ghost use Rattle.system.specs.System.{systemRefusal};
+ghost use Rattle.system.specs.System.{system_refusal};
 ghost use Rattle.scheme.specs.declared.Scheme.TheVariants.{ThreePass, FivePass};
 ghost use Rattle.commitment.specs.Texts.{content, TextOf};
-ghost use Rattle.round.specs.Openings.{stringOf, openingOf};
-ghost use Rattle.round.specs.ThreePass.{openingsThree};
-ghost use Rattle.record_form.specs.Record.{headerIn};
-ghost use Rattle.openings.specs.Openings.{stringIn, sameVectors, replyVector, secretOf};
+ghost use Rattle.round.specs.Openings.{string_of, opening_of};
+ghost use Rattle.round.specs.ThreePass.{openings_three};
+ghost use Rattle.record_form.specs.Record.{header_in};
+ghost use Rattle.openings.specs.Openings.{string_in, same_vectors, reply_vector, secret_of};
 
 use commitment::{Domain, Text, vectors_at};
 use exchange::{read_middle, read_reply_five, read_reply_three};
@@ -30,8 +30,8 @@ fn opening_three(
     reply: ReplyThree,
     k: u8,
 ) -> Text
-    requires { systemRefusal system.now ≡ 0 }
-    ensures { TextOf (stringOf d (openingOf k (openingsThree system.now v challenge reply))) 0 result }
+    requires { system_refusal system.now ≡ 0 }
+    ensures { TextOf (string_of d (opening_of k (openings_three system.now v challenge reply))) 0 result }
 {
     if k == first_number(challenge) {
         first_opening(system, d, v, challenge, reply)
@@ -42,8 +42,8 @@ fn opening_three(
 
 // Three passes: the string with which a round of a record opens commitment k.
 fn opening_three_in<'a>(system: &'a [u8], bytes: &'a [u8], r: u8, k: u8) -> Text
-    requires { (systemRefusal system.now ≡ 0) × ((headerIn bytes.now).scheme ≡ ThreePass) }
-    ensures { TextOf (stringIn system.now bytes.now r k) 0 result }
+    requires { (system_refusal system.now ≡ 0) × ((header_in bytes.now).scheme ≡ ThreePass) }
+    ensures { TextOf (string_in system.now bytes.now r k) 0 result }
 {
     let n = byte_at(system, 1);
     let m = byte_at(system, 2);
@@ -59,8 +59,8 @@ fn opening_three_in<'a>(system: &'a [u8], bytes: &'a [u8], r: u8, k: u8) -> Text
 
 // Five passes: a round opens one commitment, by its challenge.
 fn opening_five_in<'a>(system: &'a [u8], bytes: &'a [u8], r: u8, k: u8) -> Text
-    requires { (systemRefusal system.now ≡ 0) × ((headerIn bytes.now).scheme ≡ FivePass) }
-    ensures { TextOf (stringIn system.now bytes.now r k) 0 result }
+    requires { (system_refusal system.now ≡ 0) × ((header_in bytes.now).scheme ≡ FivePass) }
+    ensures { TextOf (string_in system.now bytes.now r k) 0 result }
 {
     let n = byte_at(system, 1);
     let m = byte_at(system, 2);
@@ -78,8 +78,8 @@ fn opening_five_in<'a>(system: &'a [u8], bytes: &'a [u8], r: u8, k: u8) -> Text
 
 // The string with which a round of a record opens commitment k.
 pub fn opened_string<'a>(system: &'a [u8], bytes: &'a [u8], r: u8, k: u8) -> Text
-    requires { systemRefusal system.now ≡ 0 }
-    ensures { TextOf (stringIn system.now bytes.now r k) 0 result }
+    requires { system_refusal system.now ≡ 0 }
+    ensures { TextOf (string_in system.now bytes.now r k) 0 result }
 {
     let h = header_of(bytes);
     let scheme = h.scheme;
@@ -91,7 +91,7 @@ pub fn opened_string<'a>(system: &'a [u8], bytes: &'a [u8], r: u8, k: u8) -> Tex
 
 // Whether two strings hold the same vectors; ρ is not looked at.
 pub fn same_vectors(d: Domain, x: Text, y: Text) -> bool
-    ensures { result ≡ sameVectors d (content x) (content y) }
+    ensures { result ≡ same_vectors d (content x) (content y) }
 {
     let first = x.bytes;
     let second = y.bytes;
@@ -104,14 +104,14 @@ pub fn same_vectors(d: Domain, x: Text, y: Text) -> bool
 
 // The first vector of a reply: r0 to challenge 0, r1 to challenge 1.
 fn reply_vector<'a>(system: &'a [u8], bytes: &'a [u8], r: u8) -> [u8; 96]
-    ensures { result ≡ replyVector system.now bytes.now r }
+    ensures { result ≡ reply_vector system.now bytes.now r }
 {
     slot(round_reply(bytes, r), 0, byte_at(system, 1))
 }
 
 // s = r0 + r1, from a reply to challenge 0 and one to challenge 1.
 pub fn secret<'a>(system: &'a [u8], zero: &'a [u8], one: &'a [u8], r: u8) -> [u8; 96]
-    ensures { result ≡ secretOf system.now zero.now one.now r }
+    ensures { result ≡ secret_of system.now zero.now one.now r }
 {
     add_vectors(
         byte_at(system, 0),

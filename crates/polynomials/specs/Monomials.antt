@@ -4,19 +4,19 @@ use Rattle.std.specs.Prelude.{ℕ, ◌+◌, ◌-◌, ◌*◌, ◌<◌, ◌≡◌
 use Rattle.slices.specs.Slices.{◌!◌}
 use Rattle.field.specs.Ops.{Ops}
 use Rattle.field.specs.Vector.{sum, vector}
-use Rattle.system.specs.System.{nOf, mOf, opsOf, width, triangle}
+use Rattle.system.specs.System.{n_of, m_of, ops_of, width, triangle}
 
 -- x_i·y_j + z_i·x_j
 abbrev pub monomial : Ops → List ℕ → List ℕ → List ℕ → ℕ → ℕ → ℕ
 monomial o x y z i j = o.add (o.mul (x ! i) (y ! j)) (o.mul (z ! i) (x ! j))
 
 pub record Monomials (o : Ops) (n : ℕ) (x y z t row : List ℕ) : Type 0 where
-  pub quadratic-part : (i d : ℕ) → i < n → d < n - i → row ! (triangle n i + d) ≡ monomial o x y z i (i + d)
-  pub linear-part : (i : ℕ) → i < n → row ! (triangle n n + i) ≡ t ! i
+  pub quadratic_part : (i d : ℕ) → i < n → d < n - i → row ! (triangle n i + d) ≡ monomial o x y z i (i + d)
+  pub linear_part : (i : ℕ) → i < n → row ! (triangle n n + i) ≡ t ! i
 
 -- each polynomial's coefficients times a row
-unfoldable pub timesRow : List ℕ → List ℕ → List ℕ
-timesRow b row =
-    let o = opsOf b in
-    let w = width (nOf b) in
-    vector (mOf b) (λ l. sum o w (λ k. o.mul (b ! (3 + l * w + k)) (row ! k)))
+unfoldable pub times_row : List ℕ → List ℕ → List ℕ
+times_row b row =
+    let o = ops_of b in
+    let w = width (n_of b) in
+    vector (m_of b) (λ l. sum o w (λ k. o.mul (b ! (3 + l * w + k)) (row ! k)))

@@ -5,7 +5,7 @@ use Rattle.slices.specs.Slices.{◌!◌}
 use Rattle.field.specs.Ops.{Ops}
 use Rattle.field.specs.Vector.{vector}
 use Rattle.system.specs.Polynomial.{pairs}
-use Rattle.system.specs.System.{nOf, mOf, opsOf, quadratic}
+use Rattle.system.specs.System.{n_of, m_of, ops_of, quadratic}
 
 -- a(i,j)·(x_i·y_j + y_i·x_j), so that a(i,i) counts twice
 unfoldable pub crossed : Ops → (ℕ → ℕ → ℕ) → (ℕ → ℕ) → (ℕ → ℕ) → ℕ → ℕ → ℕ
@@ -16,4 +16,4 @@ unfoldable pub polar : Ops → ℕ → (ℕ → ℕ → ℕ) → (ℕ → ℕ) �
 polar o n a x y = pairs o n (crossed o a x y)
 
 unfoldable pub expanded : List ℕ → List ℕ → List ℕ → List ℕ
-expanded b x y = vector (mOf b) (λ l. polar (opsOf b) (nOf b) (quadratic b l) (λ i. x ! i) (λ i. y ! i))
+expanded b x y = vector (m_of b) (λ l. polar (ops_of b) (n_of b) (quadratic b l) (λ i. x ! i) (λ i. y ! i))

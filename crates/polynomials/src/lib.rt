@@ -7,8 +7,8 @@
 
 ghost use Rattle.std.specs.Prelude.{◌≡◌, ◌≤◌, length};
 ghost use Rattle.field.specs.Ops.{ops};
-ghost use Rattle.system.specs.System.{systemRefusal, F, G};
-ghost use Rattle.polynomials.specs.Monomials.{Monomials, timesRow};
+ghost use Rattle.system.specs.System.{system_refusal, F, G};
+ghost use Rattle.polynomials.specs.Monomials.{Monomials, times_row};
 
 use rows::{combine, dot};
 use system::width;
@@ -50,8 +50,8 @@ fn monomials(
 
 // Each polynomial's coefficients times the monomials.
 fn products<'a>(system: &'a [u8], row: &'a [u8]) -> [u8; 96]
-    requires { (systemRefusal system.now ≡ 0) × (length row.now ≡ 4752) }
-    ensures { result ≡ timesRow system.now row.now }
+    requires { (system_refusal system.now ≡ 0) × (length row.now ≡ 4752) }
+    ensures { result ≡ times_row system.now row.now }
 {
     let mut out = [0; 96];
     let w = width(system[1]);
@@ -69,7 +69,7 @@ fn products<'a>(system: &'a [u8], row: &'a [u8]) -> [u8; 96]
 
 // F(x).
 pub fn f(system: &[u8], x: [u8; 96]) -> [u8; 96]
-    requires { systemRefusal system.now ≡ 0 }
+    requires { system_refusal system.now ≡ 0 }
     ensures { result ≡ F system.now x }
 {
     let mut row = [0; 4752];
@@ -79,7 +79,7 @@ pub fn f(system: &[u8], x: [u8; 96]) -> [u8; 96]
 
 // G(x, y).
 pub fn g(system: &[u8], x: [u8; 96], y: [u8; 96]) -> [u8; 96]
-    requires { systemRefusal system.now ≡ 0 }
+    requires { system_refusal system.now ≡ 0 }
     ensures { result ≡ G system.now x y }
 {
     let mut row = [0; 4752];

@@ -7,8 +7,8 @@
 
 ghost use Rattle.std.specs.Prelude.{◌≡◌, take, drop};
 ghost use Rattle.slices.specs.Slices.{same};
-ghost use Rattle.record_form.specs.Record.{table as table_of, headerIn, bodyIn};
-ghost use Rattle.record.specs.Reader.{recordRefusal, refusalOf, readingOf};
+ghost use Rattle.record_form.specs.Record.{table as table_of, header_in, body_in};
+ghost use Rattle.record.specs.Reader.{record_refusal, refusal_of, reading_of};
 
 use field::all_below;
 use record_form::{
@@ -28,7 +28,7 @@ pub enum Reading {
 
 // The values behind the edition.
 pub fn header_of(bytes: &[u8]) -> Header
-    ensures { result ≡ headerIn bytes.now }
+    ensures { result ≡ header_in bytes.now }
 {
     header_from(
         byte_at(bytes, 1),
@@ -41,7 +41,7 @@ pub fn header_of(bytes: &[u8]) -> Header
 
 // The bytes of a body, as many as there are.
 pub fn body_of(bytes: &[u8], body: Body) -> &[u8]
-    ensures { result.now ≡ bodyIn body bytes.now }
+    ensures { result.now ≡ body_in body bytes.now }
 {
     part(bytes, body.offset, body.length)
 }
@@ -56,7 +56,7 @@ fn table_matches(bytes: &[u8], h: Header) -> bool
 
 // The refusal of a record's bytes, 0 for none; it ends at the first.
 fn record_refusal(bytes: &[u8]) -> u8
-    ensures { result ≡ recordRefusal bytes.now }
+    ensures { result ≡ record_refusal bytes.now }
 {
     let h = header_of(bytes);
     let edition = first(
@@ -88,7 +88,7 @@ fn record_refusal(bytes: &[u8]) -> u8
 
 // Reads a record: any bytes.
 pub fn read(bytes: &[u8]) -> Reading
-    ensures { (result ≡ readingOf bytes.now) × (refusalOf result ≡ recordRefusal bytes.now) }
+    ensures { (result ≡ reading_of bytes.now) × (refusal_of result ≡ record_refusal bytes.now) }
 {
     let refused = record_refusal(bytes);
     if refused == 0 {
@@ -100,7 +100,7 @@ pub fn read(bytes: &[u8]) -> Reading
 
 // The number of the refusal, 0 for none.
 pub fn refusal_of(reading: Reading) -> u8
-    ensures { result ≡ refusalOf reading }
+    ensures { result ≡ refusal_of reading }
 {
     match reading {
         Reading::Good(_) => 0,

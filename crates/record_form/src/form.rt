@@ -1,6 +1,6 @@
 // The checks of a record's form that reader and writer share.
 ghost use Rattle.std.specs.Prelude.{◌≡◌};
-ghost use Rattle.record_form.specs.Form.{areValues, exchangeRefusal, exchangesRefusal};
+ghost use Rattle.record_form.specs.Form.{are_values, exchange_refusal, exchanges_refusal};
 
 use crate::layout::Header;
 use field::all_below;
@@ -19,7 +19,7 @@ pub enum Check {
 
 // Whether q, n, m and the round count are among their values; a `Scheme` has no other values.
 pub fn are_values(h: Header) -> bool
-    ensures { result ≡ areValues h }
+    ensures { result ≡ are_values h }
 {
     if are_sizes(h.q, h.n, h.m) {
         is_rounds(h.rounds)
@@ -30,7 +30,7 @@ pub fn are_values(h: Header) -> bool
 
 // The refusal of one exchange.
 fn exchange_refusal(check: Check, h: Header, exchange: &[u8]) -> u8
-    ensures { result ≡ exchangeRefusal check h exchange.now }
+    ensures { result ≡ exchange_refusal check h exchange.now }
 {
     let scheme = h.scheme;
     let turn = turn_length(scheme, h.n, h.m);
@@ -47,7 +47,7 @@ fn exchange_refusal(check: Check, h: Header, exchange: &[u8]) -> u8
 
 // The first refusal over all rounds; it ends there.
 pub fn exchanges_refusal(check: Check, h: Header, exchanges: &[u8]) -> u8
-    ensures { result ≡ exchangesRefusal check h exchanges.now }
+    ensures { result ≡ exchanges_refusal check h exchanges.now }
 {
     let scheme = h.scheme;
     let each = exchange_length(scheme, h.n, h.m);

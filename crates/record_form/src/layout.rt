@@ -1,6 +1,6 @@
 // Where the bodies of a record stand, and the table of contents that says so.
 ghost use Rattle.std.specs.Prelude.{◌≡◌, ◌+◌, ◌≤◌, length};
-ghost use Rattle.record_form.specs.Record.{headerOf, layoutOf, recordLength, entry as entry_of, table as table_of};
+ghost use Rattle.record_form.specs.Record.{header_of, layout_of, record_length, entry as entry_of, table as table_of};
 
 use scheme::{Scheme, commitments_length, exchange_length, of_rounds, scheme_of};
 use slices::{put, put_both, word};
@@ -17,7 +17,7 @@ pub struct Header {
 
 // The header of five bytes, of which the first is a scheme's.
 pub fn header_from(byte: u8, q: u8, n: u8, m: u8, rounds: u8) -> Header
-    ensures { result ≡ headerOf byte q n m rounds }
+    ensures { result ≡ header_of byte q n m rounds }
 {
     let scheme = scheme_of(byte);
     Header {
@@ -47,7 +47,7 @@ pub struct Layout {
 }
 
 pub fn laid_out(h: Header) -> Layout
-    ensures { (result ≡ layoutOf h) × (result.exchanges.offset + result.exchanges.length ≤ 1000000) }
+    ensures { (result ≡ layout_of h) × (result.exchanges.offset + result.exchanges.length ≤ 1000000) }
 {
     let m = h.m as usize;
     let scheme = h.scheme;
@@ -73,7 +73,7 @@ pub fn laid_out(h: Header) -> Layout
 
 // The bytes of a whole record.
 pub fn record_length(h: Header) -> usize
-    ensures { (result ≡ recordLength h) × (result ≤ 1000000) }
+    ensures { (result ≡ record_length h) × (result ≤ 1000000) }
 {
     let last = laid_out(h).exchanges;
     last.offset + last.length

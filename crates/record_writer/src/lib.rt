@@ -7,8 +7,8 @@
 
 ghost use Rattle.std.specs.Prelude.{◌≡◌, ◌+◌, length};
 ghost use Rattle.refusal.specs.Refusal.{kept};
-ghost use Rattle.record_form.specs.Record.{headerOf, written};
-ghost use Rattle.record_writer.specs.Writer.{fieldsOf, writeRefusal};
+ghost use Rattle.record_form.specs.Record.{header_of, written};
+ghost use Rattle.record_writer.specs.Writer.{fields_of, write_refusal};
 
 use field::all_below;
 use record_form::{
@@ -27,7 +27,7 @@ fn write_refusal<'a>(
     exchanges: &'a [u8],
     out_len: usize,
 ) -> u8
-    ensures { result ≡ writeRefusal scheme (fieldsOf h key.now commitments.now exchanges.now) out_len }
+    ensures { result ≡ write_refusal scheme (fields_of h key.now commitments.now exchanges.now) out_len }
 {
     let values = first(unless(is_scheme(scheme), 1), unless(are_values(h), 1));
     if values != 0 {
@@ -64,7 +64,7 @@ fn put_record<'a>(
     out: &mut [u8],
 )
     requires { length out.old ≡ 30 + length key.now + length commitments.now + length exchanges.now }
-    ensures { out.new ≡ written (fieldsOf h key.now commitments.now exchanges.now) }
+    ensures { out.new ≡ written (fields_of h key.now commitments.now exchanges.now) }
 {
     let scheme = h.scheme;
     let head = [1, byte_of(scheme), h.q, h.n, h.m, h.rounds];
@@ -90,10 +90,10 @@ pub fn write<'a>(
     exchanges: &'a [u8],
     out: &mut [u8],
 ) -> u8
-    ensures { (result ≡ writeRefusal scheme (fieldsOf (headerOf scheme q n m rounds) key.now commitments.now
+    ensures { (result ≡ write_refusal scheme (fields_of (header_of scheme q n m rounds) key.now commitments.now
         exchanges.now) (length out.old))
         × (out.new ≡ kept result out.old (written
-        (fieldsOf (headerOf scheme q n m rounds) key.now commitments.now exchanges.now))) }
+        (fields_of (header_of scheme q n m rounds) key.now commitments.now exchanges.now))) }
 {
     let header = header_from(scheme, q, n, m, rounds);
     let refused = write_refusal(scheme, header, key, commitments, exchanges, out.len());

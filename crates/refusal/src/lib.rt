@@ -3,18 +3,18 @@
 #![tactic(auto)]
 
 ghost use Rattle.std.specs.Prelude.{◌≡◌};
-ghost use Rattle.refusal.specs.Refusal.{unless as unlessOf, ◌orElse◌};
+ghost use Rattle.refusal.specs.Refusal.{unless as unless_of, ◌or_else◌};
 
 // The number where the test fails.
 pub fn unless(test: bool, number: u8) -> u8
-    ensures { result ≡ unlessOf test number }
+    ensures { result ≡ unless_of test number }
 {
     if test { 0 } else { number }
 }
 
 // The first of two that is no 0.
 pub fn first(refusal: u8, later: u8) -> u8
-    ensures { result ≡ (refusal orElse later) }
+    ensures { result ≡ (refusal or_else later) }
 {
     if refusal == 0 { later } else { refusal }
 }

@@ -6,132 +6,132 @@ use mathlib.Core.List.{List, [], ◌∷◌, ◌++◌, append_assoc}
 use native.Mathlib.Omega.{arith}
 use lib.Dec.{eqb}
 use Rattle.slices.specs.Slices.{same}
-use Rattle.slices.proofs.Sameness.{same-refl, same-differs}
-use Rattle.text.specs.Text.{decimal, numbered, lineFeed}
-use Rattle.text.specs.Reading.{lines, isOneOf, count}
-use Rattle.text.proofs.Decimal.{decimal-digit}
-use Rattle.text.proofs.Reading.{above, Word, word-of, word-decimal, spaced, Words, no-more, one-more, words-spaced, LineOf, line-first, line-alone}
-use Rattle.report_lines.specs.ReportLines.{roundWord, challengeWord, spaceWord, acceptWord, rejectWord, verdictStart, ofWord, roundsWord, acceptedWord, rejectedWord, refusedWord, verdictWord, roundLine, verdictLine, totalsLine, refusedLine}
-use Rattle.report_lines.specs.ReadLines.{roundName, verdictName, ofName, roundsName, acceptedName, rejectedName, refusedName, isRoundWith, roundsWith}
+use Rattle.slices.proofs.Sameness.{same_refl, same_differs}
+use Rattle.text.specs.Text.{decimal, numbered, line_feed}
+use Rattle.text.specs.Reading.{lines, is_one_of, count}
+use Rattle.text.proofs.Decimal.{decimal_digit}
+use Rattle.text.proofs.Reading.{above, Word, word_of, word-decimal, spaced, Words, no_more, one_more, words_spaced, LineOf, line_first, line_alone}
+use Rattle.report_lines.specs.ReportLines.{round_word, challenge_word, space_word, accept_word, reject_word, verdict_start, of_word, rounds_word, accepted_word, rejected_word, refused_word, verdict_word, round_line, verdict_line, totals_line, refused_line}
+use Rattle.report_lines.specs.ReadLines.{round_name, verdict_name, of_name, rounds_name, accepted_name, rejected_name, refused_name, is_round_with, rounds_with}
 
 -- ---- the words
 
-unfoldable pub challengeName : List ℕ
-challengeName = 99 ∷ 104 ∷ 97 ∷ 108 ∷ 108 ∷ 101 ∷ 110 ∷ 103 ∷ 101 ∷ []
+unfoldable pub challenge_name : List ℕ
+challenge_name = 99 ∷ 104 ∷ 97 ∷ 108 ∷ 108 ∷ 101 ∷ 110 ∷ 103 ∷ 101 ∷ []
 
-word-verdict : (accepted : Bool) → Word (verdictWord accepted)
-unfolding above verdictWord acceptWord rejectWord
-word-verdict true = word-of acceptWord refl
-word-verdict false = word-of rejectWord refl
+word_verdict : (accepted : Bool) → Word (verdict_word accepted)
+unfolding above verdict_word accept_word reject_word
+word_verdict true = word_of accept_word refl
+word_verdict false = word_of reject_word refl
 
-pub round-words : (round challenge : ℕ) (accepted : Bool) →
-    LineOf (roundLine round challenge accepted) roundName (decimal round ∷ challengeName ∷ decimal challenge ∷ verdictWord accepted ∷ [])
-unfolding above spaced roundLine numbered roundWord challengeWord spaceWord roundName challengeName
-round-words round challenge accepted =
+pub round_words : (round challenge : ℕ) (accepted : Bool) →
+    LineOf (round_line round challenge accepted) round_name (decimal round ∷ challenge_name ∷ decimal challenge ∷ verdict_word accepted ∷ [])
+unfolding above spaced round_line numbered round_word challenge_word space_word round_name challenge_name
+round_words round challenge accepted =
     record {
-      made-of =
-          ap (λ (l : List ℕ). l ++ lineFeed)
-          (append_assoc (numbered roundWord round) (numbered challengeWord challenge) (spaceWord ++ verdictWord accepted));
-      of-words =
-          one-more (word-of roundName refl)
-          (one-more (word-decimal round) (one-more (word-of challengeName refl) (one-more (word-decimal challenge) (one-more (word-verdict accepted) no-more))));
+      made_of =
+          ap (λ (l : List ℕ). l ++ line_feed)
+          (append_assoc (numbered round_word round) (numbered challenge_word challenge) (space_word ++ verdict_word accepted));
+      of_words =
+          one_more (word_of round_name refl)
+          (one_more (word-decimal round) (one_more (word_of challenge_name refl) (one_more (word-decimal challenge) (one_more (word_verdict accepted) no_more))));
     }
 
-pub verdict-words : (accepted rounds : ℕ) →
-    LineOf (verdictLine accepted rounds) verdictName (verdictWord (eqb accepted rounds) ∷ decimal accepted ∷ ofName ∷ decimal rounds ∷ [])
-unfolding above spaced verdictLine numbered verdictStart spaceWord ofWord verdictName ofName
-verdict-words accepted rounds =
+pub verdict_words : (accepted rounds : ℕ) →
+    LineOf (verdict_line accepted rounds) verdict_name (verdict_word (eqb accepted rounds) ∷ decimal accepted ∷ of_name ∷ decimal rounds ∷ [])
+unfolding above spaced verdict_line numbered verdict_start space_word of_word verdict_name of_name
+verdict_words accepted rounds =
     record {
-      made-of = refl;
-      of-words =
-          one-more (word-of verdictName refl)
-          (one-more (word-verdict (eqb accepted rounds)) (one-more (word-decimal accepted) (one-more (word-of ofName refl) (one-more (word-decimal rounds) no-more))));
+      made_of = refl;
+      of_words =
+          one_more (word_of verdict_name refl)
+          (one_more (word_verdict (eqb accepted rounds)) (one_more (word-decimal accepted) (one_more (word_of of_name refl) (one_more (word-decimal rounds) no_more))));
     }
 
-pub totals-words : (accepted rejected : ℕ) →
-    LineOf (totalsLine accepted rejected) roundsName (decimal accepted ∷ acceptedName ∷ decimal rejected ∷ rejectedName ∷ [])
-unfolding above spaced totalsLine numbered roundsWord acceptedWord rejectedWord roundsName acceptedName rejectedName
-totals-words accepted rejected =
+pub totals_words : (accepted rejected : ℕ) →
+    LineOf (totals_line accepted rejected) rounds_name (decimal accepted ∷ accepted_name ∷ decimal rejected ∷ rejected_name ∷ [])
+unfolding above spaced totals_line numbered rounds_word accepted_word rejected_word rounds_name accepted_name rejected_name
+totals_words accepted rejected =
     record {
-      made-of = ap (λ (l : List ℕ). l ++ lineFeed) (append_assoc (numbered roundsWord accepted) (numbered acceptedWord rejected) rejectedWord);
-      of-words =
-          one-more (word-of roundsName refl)
-          (one-more (word-decimal accepted) (one-more (word-of acceptedName refl) (one-more (word-decimal rejected) (one-more (word-of rejectedName refl) no-more))));
+      made_of = ap (λ (l : List ℕ). l ++ line_feed) (append_assoc (numbered rounds_word accepted) (numbered accepted_word rejected) rejected_word);
+      of_words =
+          one_more (word_of rounds_name refl)
+          (one_more (word-decimal accepted) (one_more (word_of accepted_name refl) (one_more (word-decimal rejected) (one_more (word_of rejected_name refl) no_more))));
     }
 
-pub refused-words : (refusal : ℕ) → LineOf (refusedLine refusal) refusedName (decimal refusal ∷ [])
-unfolding above spaced refusedLine numbered refusedWord refusedName
-refused-words refusal = record { made-of = refl; of-words = one-more (word-of refusedName refl) (one-more (word-decimal refusal) no-more) }
+pub refused_words : (refusal : ℕ) → LineOf (refused_line refusal) refused_name (decimal refusal ∷ [])
+unfolding above spaced refused_line numbered refused_word refused_name
+refused_words refusal = record { made_of = refl; of_words = one_more (word_of refused_name refl) (one_more (word-decimal refusal) no_more) }
 
 -- ---- the lines as they are read, without their line feeds
 
-abbrev pub roundRead : ℕ → ℕ → Bool → List ℕ
-roundRead round challenge accepted = spaced roundName (decimal round ∷ challengeName ∷ decimal challenge ∷ verdictWord accepted ∷ [])
+abbrev pub round_read : ℕ → ℕ → Bool → List ℕ
+round_read round challenge accepted = spaced round_name (decimal round ∷ challenge_name ∷ decimal challenge ∷ verdict_word accepted ∷ [])
 
-abbrev pub verdictRead : ℕ → ℕ → List ℕ
-verdictRead accepted rounds = spaced verdictName (verdictWord (eqb accepted rounds) ∷ decimal accepted ∷ ofName ∷ decimal rounds ∷ [])
+abbrev pub verdict_read : ℕ → ℕ → List ℕ
+verdict_read accepted rounds = spaced verdict_name (verdict_word (eqb accepted rounds) ∷ decimal accepted ∷ of_name ∷ decimal rounds ∷ [])
 
-abbrev pub totalsRead : ℕ → ℕ → List ℕ
-totalsRead accepted rejected = spaced roundsName (decimal accepted ∷ acceptedName ∷ decimal rejected ∷ rejectedName ∷ [])
+abbrev pub totals_read : ℕ → ℕ → List ℕ
+totals_read accepted rejected = spaced rounds_name (decimal accepted ∷ accepted_name ∷ decimal rejected ∷ rejected_name ∷ [])
 
-pub end-lines : (accepted rounds x y : ℕ) → lines (verdictLine accepted rounds ++ totalsLine x y) ≡ verdictRead accepted rounds ∷ totalsRead x y ∷ []
-end-lines accepted rounds x y =
-    line-first (verdictLine accepted rounds) _ _ (totalsLine x y) (verdict-words accepted rounds) ∙
-    ap (λ (l : List (List ℕ)). verdictRead accepted rounds ∷ l) (line-alone (totalsLine x y) _ _ (totals-words x y))
+pub end_lines : (accepted rounds x y : ℕ) → lines (verdict_line accepted rounds ++ totals_line x y) ≡ verdict_read accepted rounds ∷ totals_read x y ∷ []
+end_lines accepted rounds x y =
+    line_first (verdict_line accepted rounds) _ _ (totals_line x y) (verdict_words accepted rounds) ∙
+    ap (λ (l : List (List ℕ)). verdict_read accepted rounds ∷ l) (line_alone (totals_line x y) _ _ (totals_words x y))
 
 -- ---- which are round lines with a word
 
 -- by the words of a line
-by-words : (word w : List ℕ) (ws : List (List ℕ)) → Words (w ∷ ws) → isRoundWith word (spaced w ws) ≡ (same roundName w && isOneOf word (w ∷ ws))
-unfolding isRoundWith
-by-words word w ws h = rw (words-spaced w ws h)
+by_words : (word w : List ℕ) (ws : List (List ℕ)) → Words (w ∷ ws) → is_round_with word (spaced w ws) ≡ (same round_name w && is_one_of word (w ∷ ws))
+unfolding is_round_with
+by_words word w ws h = rw (words_spaced w ws h)
 
 -- no word that begins with a letter is a number
-no-number : (b : ℕ) (w : List ℕ) (k : ℕ) → 57 < b → same (b ∷ w) (decimal k) ≡ false
-no-number b w k letter = same-differs (b ∷ w) (decimal k) 0 (λ e. absurd (omega (arith, letter, decimal-digit k, e)))
+no_number : (b : ℕ) (w : List ℕ) (k : ℕ) → 57 < b → same (b ∷ w) (decimal k) ≡ false
+no_number b w k letter = same_differs (b ∷ w) (decimal k) 0 (λ e. absurd (omega (arith, letter, decimal_digit k, e)))
 
 -- the words of a round line beside the one looked for
-no-round : (said : Bool) → same (verdictWord said) roundName ≡ false
-unfolding same roundName verdictWord acceptWord rejectWord
-no-round true = refl
-no-round false = refl
+no_round : (said : Bool) → same (verdict_word said) round_name ≡ false
+unfolding same round_name verdict_word accept_word reject_word
+no_round true = refl
+no_round false = refl
 
-no-challenge : (said : Bool) → same (verdictWord said) challengeName ≡ false
-unfolding same challengeName verdictWord acceptWord rejectWord
-no-challenge true = refl
-no-challenge false = refl
+no_challenge : (said : Bool) → same (verdict_word said) challenge_name ≡ false
+unfolding same challenge_name verdict_word accept_word reject_word
+no_challenge true = refl
+no_challenge false = refl
 
-no-decimal : (said : Bool) (k : ℕ) → same (verdictWord said) (decimal k) ≡ false
-unfolding verdictWord acceptWord rejectWord
-no-decimal true k = no-number 97 _ k (omega arith)
-no-decimal false k = no-number 114 _ k (omega arith)
+no_decimal : (said : Bool) (k : ℕ) → same (verdict_word said) (decimal k) ≡ false
+unfolding verdict_word accept_word reject_word
+no_decimal true k = no_number 97 _ k (omega arith)
+no_decimal false k = no_number 114 _ k (omega arith)
 
-same-verdict : (said accepted : Bool) → same (verdictWord said) (verdictWord accepted) ≡ cond said accepted (not accepted)
-unfolding same verdictWord acceptWord rejectWord
-same-verdict true true = refl
-same-verdict true false = refl
-same-verdict false true = refl
-same-verdict false false = refl
+same_verdict : (said accepted : Bool) → same (verdict_word said) (verdict_word accepted) ≡ cond said accepted (not accepted)
+unfolding same verdict_word accept_word reject_word
+same_verdict true true = refl
+same_verdict true false = refl
+same_verdict false true = refl
+same_verdict false false = refl
 
 or-false : (t : Bool) → (t || false) ≡ t
 or-false true = refl
 or-false false = refl
 
 -- a round line has the word that it says, and not the other
-pub round-with : (said : Bool) (round challenge : ℕ) (accepted : Bool) →
-    isRoundWith (verdictWord said) (roundRead round challenge accepted) ≡ cond said accepted (not accepted)
-unfolding isOneOf
-round-with said round challenge accepted =
-    by-words (verdictWord said) roundName _ (round-words round challenge accepted).of-words ∙
-    simp (same-refl roundName, no-round said, no-decimal said round, no-challenge said, no-decimal said challenge, same-verdict said accepted) (or-false _)
+pub round_with : (said : Bool) (round challenge : ℕ) (accepted : Bool) →
+    is_round_with (verdict_word said) (round_read round challenge accepted) ≡ cond said accepted (not accepted)
+unfolding is_one_of
+round_with said round challenge accepted =
+    by_words (verdict_word said) round_name _ (round_words round challenge accepted).of_words ∙
+    simp (same_refl round_name, no_round said, no_decimal said round, no_challenge said, no_decimal said challenge, same_verdict said accepted) (or-false _)
 
 -- what begins with another word is no round line
-pub other-line : (word w : List ℕ) (ws : List (List ℕ)) → Words (w ∷ ws) → same roundName w ≡ false → isRoundWith word (spaced w ws) ≡ false
-other-line word w ws h other = by-words word w ws h ∙ rw other
+pub other_line : (word w : List ℕ) (ws : List (List ℕ)) → Words (w ∷ ws) → same round_name w ≡ false → is_round_with word (spaced w ws) ≡ false
+other_line word w ws h other = by_words word w ws h ∙ rw other
 
 -- neither the verdict nor the totals are
-pub no-rounds-at-end : (word : List ℕ) (accepted rounds x y : ℕ) → roundsWith word (verdictLine accepted rounds ++ totalsLine x y) ≡ 0
-unfolding roundsWith count same roundName verdictName roundsName
-no-rounds-at-end word accepted rounds x y =
-    ap (count (isRoundWith word)) (end-lines accepted rounds x y) ∙
-    simp (other-line word verdictName _ (verdict-words accepted rounds).of-words refl, other-line word roundsName _ (totals-words x y).of-words refl)
+pub no_rounds_at_end : (word : List ℕ) (accepted rounds x y : ℕ) → rounds_with word (verdict_line accepted rounds ++ totals_line x y) ≡ 0
+unfolding rounds_with count same round_name verdict_name rounds_name
+no_rounds_at_end word accepted rounds x y =
+    ap (count (is_round_with word)) (end_lines accepted rounds x y) ∙
+    simp (other_line word verdict_name _ (verdict_words accepted rounds).of_words refl, other_line word rounds_name _ (totals_words x y).of_words refl)

@@ -9,106 +9,106 @@ use native.Mathlib.Omega.{arith}
 use lib.Dec.{eqb}
 use borrow.Author.Tests.{eqb-true, eqb-false, eq-eqb, ne_eqb}
 use Rattle.slices.specs.Slices.{same}
-use Rattle.slices.proofs.Sameness.{same-by}
+use Rattle.slices.proofs.Sameness.{same_by}
 use Rattle.text.specs.Text.{decimal}
-use Rattle.text.proofs.Decimal.{read-decimal}
-use Rattle.text.proofs.Reading.{words-spaced, line-alone}
-use Rattle.record_form.specs.Record.{headerIn}
+use Rattle.text.proofs.Decimal.{read_decimal}
+use Rattle.text.proofs.Reading.{words_spaced, line_alone}
+use Rattle.record_form.specs.Record.{header_in}
 use Rattle.record_form.proofs.ValidForm.{values}
-use Rattle.record.proofs.RecordLayout.{accepted, not-refused}
-use Rattle.transcript.specs.Transcript.{acceptedCount}
-use Rattle.report_lines.specs.ReportLines.{acceptWord, rejectWord, verdictWord, verdictLine, totalsLine, refusedLine}
-use Rattle.report_lines.specs.ReadLines.{roundsWith}
-use Rattle.report_lines.proofs.ReadLines.{verdictRead, totalsRead, verdict-words, totals-words, refused-words, end-lines, no-rounds-at-end}
-use Rattle.reporting.specs.Report.{systemPart, recordPart, reportRefusal, roundLines, judgedText, reportText}
+use Rattle.record.proofs.RecordLayout.{accepted, not_refused}
+use Rattle.transcript.specs.Transcript.{accepted_count}
+use Rattle.report_lines.specs.ReportLines.{accept_word, reject_word, verdict_word, verdict_line, totals_line, refused_line}
+use Rattle.report_lines.specs.ReadLines.{rounds_with}
+use Rattle.report_lines.proofs.ReadLines.{verdict_read, totals_read, verdict_words, totals_words, refused_words, end_lines, no_rounds_at_end}
+use Rattle.reporting.specs.Report.{system_part, record_part, report_refusal, round_lines, judged_text, report_text}
 use Rattle.reporting.specs.Totals.{Reportable, RightEnd, RefusedAlone}
-use Rattle.reporting.proofs.RoundLines.{roundsRead, length-read, lines-rounds, rounds-and, rounds-alone, accepted-lines, both-lines}
+use Rattle.reporting.proofs.RoundLines.{rounds_as_read, length_read, lines_rounds, rounds_and, rounds_alone, accepted_lines, both_lines}
 use Rattle.reporting.proofs.Inputs.{reports, reportable, joined}
 
 -- ---- the verdict's word
 
 -- "accept" and "reject" are two words
-two-words : acceptWord ≡ rejectWord → ⊥
-unfolding same acceptWord rejectWord
-two-words e = absurd (true≢false (sym (same-by acceptWord rejectWord e)))
+two_words : accept_word ≡ reject_word → ⊥
+unfolding same accept_word reject_word
+two_words e = absurd (true≢false (sym (same_by accept_word reject_word e)))
 
-word-accepts : (k n r : ℕ) → k + r ≡ n → (verdictWord (eqb k n) ≡ acceptWord) ↔ (r ≡ 0)
-unfolding verdictWord
-word-accepts k n r sum = (λ e. go (eqb k n) refl e, λ none. rw (eq-eqb k n (omega arith)) refl)
+word_accepts : (k n r : ℕ) → k + r ≡ n → (verdict_word (eqb k n) ≡ accept_word) ↔ (r ≡ 0)
+unfolding verdict_word
+word_accepts k n r sum = (λ e. go (eqb k n) refl e, λ none. rw (eq-eqb k n (omega arith)) refl)
   where
-    go : (t : Bool) → eqb k n ≡ t → verdictWord t ≡ acceptWord → r ≡ 0
+    go : (t : Bool) → eqb k n ≡ t → verdict_word t ≡ accept_word → r ≡ 0
     go true is e = omega (arith, sum, eqb-true k n is)
-    go false is e = absurd (two-words (sym e))
+    go false is e = absurd (two_words (sym e))
 
-word-rejects : (k n r : ℕ) → k + r ≡ n → (verdictWord (eqb k n) ≡ rejectWord) ↔ (r ≡ 0 → ⊥)
-unfolding verdictWord
-word-rejects k n r sum = (λ e. go (eqb k n) refl e, λ one. rw (ne_eqb k n (λ all. one (omega (arith, sum, all)))) refl)
+word_rejects : (k n r : ℕ) → k + r ≡ n → (verdict_word (eqb k n) ≡ reject_word) ↔ (r ≡ 0 → ⊥)
+unfolding verdict_word
+word_rejects k n r sum = (λ e. go (eqb k n) refl e, λ one. rw (ne_eqb k n (λ all. one (omega (arith, sum, all)))) refl)
   where
-    go : (t : Bool) → eqb k n ≡ t → verdictWord t ≡ rejectWord → r ≡ 0 → ⊥
-    go true is e none = two-words e
+    go : (t : Bool) → eqb k n ≡ t → verdict_word t ≡ reject_word → r ≡ 0 → ⊥
+    go true is e none = two_words e
     go false is e none = absurd (eqb-false k n is (omega (arith, sum, none)))
 
 -- ---- the end
 
 -- the round lines with a word are those above the end
-above-end : (word system b : List ℕ) (n k x y : ℕ) → roundsWith word (roundLines system b n ++ (verdictLine k n ++ totalsLine x y)) ≡ roundsWith word (roundLines system b n)
-above-end word system b n k x y =
-    omega (arith, rounds-and word system b n (verdictLine k n ++ totalsLine x y), no-rounds-at-end word k n x y, rounds-alone word system b n)
+above_end : (word system b : List ℕ) (n k x y : ℕ) → rounds_with word (round_lines system b n ++ (verdict_line k n ++ totals_line x y)) ≡ rounds_with word (round_lines system b n)
+above_end word system b n k x y =
+    omega (arith, rounds_and word system b n (verdict_line k n ++ totals_line x y), no_rounds_at_end word k n x y, rounds_alone word system b n)
 
-right-end : (system b : List ℕ) → (headerIn b).rounds ≤ 255 → RightEnd (judgedText system b) (headerIn b).rounds
-unfolding judgedText
-right-end system b few =
-    let n = (headerIn b).rounds in
-    let k = acceptedCount system b n in
-    let A = roundsWith acceptWord (roundLines system b n) in
-    let R = roundsWith rejectWord (roundLines system b n) in
-    let sum = both-lines system b n in
-    let count = accepted-lines system b n in
-    let A-above = above-end acceptWord system b n k A R in
-    let R-above = above-end rejectWord system b n k A R in
+right_end : (system b : List ℕ) → (header_in b).rounds ≤ 255 → RightEnd (judged_text system b) (header_in b).rounds
+unfolding judged_text
+right_end system b few =
+    let n = (header_in b).rounds in
+    let k = accepted_count system b n in
+    let A = rounds_with accept_word (round_lines system b n) in
+    let R = rounds_with reject_word (round_lines system b n) in
+    let sum = both_lines system b n in
+    let count = accepted_lines system b n in
+    let a_above = above_end accept_word system b n k A R in
+    let r_above = above_end reject_word system b n k A R in
     record {
-      rounds = roundsRead system b n;
-      verdict = verdictRead k n;
-      totals = totalsRead A R;
-      all-lines = lines-rounds system b n _ ∙ ap (λ (l : List (List ℕ)). roundsRead system b n ++ l) (end-lines k n A R);
-      a-line-a-round = length-read system b n;
-      word = verdictWord (eqb k n);
+      rounds = rounds_as_read system b n;
+      verdict = verdict_read k n;
+      totals = totals_read A R;
+      all_lines = lines_rounds system b n _ ∙ ap (λ (l : List (List ℕ)). rounds_as_read system b n ++ l) (end_lines k n A R);
+      a_line_a_round = length_read system b n;
+      word = verdict_word (eqb k n);
       passed = decimal k;
-      of-all = decimal n;
-      verdict-words = words-spaced _ _ (verdict-words k n).of-words;
-      accepts-when = rw R-above (word-accepts k n R (omega (arith, sum, count)));
-      rejects-when = rw R-above (word-rejects k n R (omega (arith, sum, count)));
-      passed-is = read-decimal k (omega (arith, sum, count)) ∙ ap some (sym count ∙ sym A-above);
-      of-all-is = read-decimal n (omega arith);
+      of_all = decimal n;
+      verdict_words = words_spaced _ _ (verdict_words k n).of_words;
+      accepts_when = rw r_above (word_accepts k n R (omega (arith, sum, count)));
+      rejects_when = rw r_above (word_rejects k n R (omega (arith, sum, count)));
+      passed_is = read_decimal k (omega (arith, sum, count)) ∙ ap some (sym count ∙ sym a_above);
+      of_all_is = read_decimal n (omega arith);
       accepted = decimal A;
       rejected = decimal R;
-      totals-words = words-spaced _ _ (totals-words A R).of-words;
-      accepted-is = read-decimal A (omega (arith, sum)) ∙ ap some (sym A-above);
-      rejected-is = read-decimal R (omega (arith, sum)) ∙ ap some (sym R-above);
-      sum-is = rw (A-above, R-above) sum;
+      totals_words = words_spaced _ _ (totals_words A R).of_words;
+      accepted_is = read_decimal A (omega (arith, sum)) ∙ ap some (sym a_above);
+      rejected_is = read_decimal R (omega (arith, sum)) ∙ ap some (sym r_above);
+      sum_is = rw (a_above, r_above) sum;
     }
 
 -- ---- every input
 
-pub report-end : (system b : List ℕ) → Reportable system b → RightEnd (reportText (system ++ b)) (headerIn b).rounds
-report-end system b k = rw (reports system b k) (right-end system b few)
+pub report_end : (system b : List ℕ) → Reportable system b → RightEnd (report_text (system ++ b)) (header_in b).rounds
+report_end system b k = rw (reports system b k) (right_end system b few)
   where
-    few : (headerIn b).rounds ≤ 255
-    few = (values (headerIn b) (accepted b (not-refused b k.record-well-formed)).header-values).rounds-value.1
+    few : (header_in b).rounds ≤ 255
+    few = (values (header_in b) (accepted b (not_refused b k.record_well_formed)).header_values).rounds_value.1
 
-refused-line-alone : (refusal : ℕ) → RefusedAlone (refusedLine refusal)
-refused-line-alone refusal =
+refused_line_alone : (refusal : ℕ) → RefusedAlone (refused_line refusal)
+refused_line_alone refusal =
     record {
       line = _;
       number = decimal refusal;
-      one-line = line-alone (refusedLine refusal) _ _ (refused-words refusal);
-      line-words = words-spaced _ _ (refused-words refusal).of-words;
+      one_line = line_alone (refused_line refusal) _ _ (refused_words refusal);
+      line_words = words_spaced _ _ (refused_words refusal).of_words;
     }
 
-pub report-refused : (input : List ℕ) → ((system b : List ℕ) → input ≡ system ++ b → Reportable system b → ⊥) → RefusedAlone (reportText input)
-unfolding reportText
-report-refused input other = go (eqb (reportRefusal input) 0) refl
+pub report_refused : (input : List ℕ) → ((system b : List ℕ) → input ≡ system ++ b → Reportable system b → ⊥) → RefusedAlone (report_text input)
+unfolding report_text
+report_refused input other = go (eqb (report_refusal input) 0) refl
   where
-    go : (t : Bool) → eqb (reportRefusal input) 0 ≡ t → RefusedAlone (cond t (judgedText (systemPart input) (recordPart input)) (refusedLine (reportRefusal input)))
-    go true none = absurd (other (systemPart input) (recordPart input) (joined input) (reportable input (eqb-true _ 0 none)))
-    go false refused = refused-line-alone (reportRefusal input)
+    go : (t : Bool) → eqb (report_refusal input) 0 ≡ t → RefusedAlone (cond t (judged_text (system_part input) (record_part input)) (refused_line (report_refusal input)))
+    go true none = absurd (other (system_part input) (record_part input) (joined input) (reportable input (eqb-true _ 0 none)))
+    go false refused = refused_line_alone (report_refusal input)

@@ -6,8 +6,8 @@
 
 ghost use Rattle.std.specs.Prelude.{◌≡◌, cond, ◌+◌, ◌≤◌, ◌<◌, length};
 ghost use Rattle.slices.specs.Slices.{placed, zeros};
-ghost use Rattle.system.specs.System.{systemRefusal};
-ghost use Rattle.reporting.specs.Report.{systemPart, recordPart, reportRefusal, judgedText, reportLength, reportOut};
+ghost use Rattle.system.specs.System.{system_refusal};
+ghost use Rattle.reporting.specs.Report.{system_part, record_part, report_refusal, judged_text, report_length, report_out};
 
 use record::header_of;
 use refusal::unless;
@@ -32,7 +32,7 @@ pub fn text_buffer() -> [u8; 8192]
 
 // The system at the front of the input.
 pub fn system_part(input: &[u8]) -> &[u8]
-    ensures { result.now ≡ systemPart input.now }
+    ensures { result.now ≡ system_part input.now }
 {
     part(
         input,
@@ -43,7 +43,7 @@ pub fn system_part(input: &[u8]) -> &[u8]
 
 // What stands behind it.
 fn record_part(input: &[u8]) -> &[u8]
-    ensures { result.now ≡ recordPart input.now }
+    ensures { result.now ≡ record_part input.now }
 {
     part(
         input,
@@ -54,7 +54,7 @@ fn record_part(input: &[u8]) -> &[u8]
 
 // The refusal of an input, 0 for none; it ends at the first.
 fn report_refusal(input: &[u8]) -> u8
-    ensures { result ≡ reportRefusal input.now }
+    ensures { result ≡ report_refusal input.now }
 {
     let too_long = unless(input.len() <= 65536, 2);
     if too_long != 0 {
@@ -77,9 +77,9 @@ fn counted(accepted: u8, round_accepted: bool) -> u8
 
 // Judges every round: a line for each, then the verdict, then how many are accepted and how many rejected.
 fn judged<'a>(system: &'a [u8], bytes: &'a [u8], text: &mut [u8]) -> usize
-    requires { (systemRefusal system.now ≡ 0) × (length text.old ≡ 8192) }
-    ensures { (text.new ≡ placed text.old 0 (judgedText system.now bytes.now))
-        × (result ≡ length (judgedText system.now bytes.now)) × (result ≤ 8192) }
+    requires { (system_refusal system.now ≡ 0) × (length text.old ≡ 8192) }
+    ensures { (text.new ≡ placed text.old 0 (judged_text system.now bytes.now))
+        × (result ≡ length (judged_text system.now bytes.now)) × (result ≤ 8192) }
 {
     let rounds = header_of(bytes).rounds;
     let mut at = 0;
@@ -99,8 +99,8 @@ fn judged<'a>(system: &'a [u8], bytes: &'a [u8], text: &mut [u8]) -> usize
 
 // Writes the report on an input, and answers its length.
 pub fn report(input: &[u8], text: &mut [u8]) -> usize
-    ensures { (result ≡ reportLength input.now (length text.old))
-        × (text.new ≡ reportOut input.now text.old) × (result ≤ length text.old) }
+    ensures { (result ≡ report_length input.now (length text.old))
+        × (text.new ≡ report_out input.now text.old) × (result ≤ length text.old) }
 {
     if text.len() != 8192 {
         return 0;

@@ -1,12 +1,12 @@
 // The vectors of a round as the card and the simulator form them.
 ghost use Rattle.std.specs.Prelude.{◌≡◌};
 ghost use Rattle.field.specs.Ops.{ops};
-ghost use Rattle.field.specs.Vector.{subV};
-ghost use Rattle.system.specs.System.{systemRefusal};
-ghost use Rattle.protocol.specs.Protocols.{r1Of, t1Of, cardThree, unmasked, simulatedE1, simulatedMask, simulated as simulatedOf};
-ghost use Rattle.protocol.specs.Rounds.{mapOf};
-ghost use Rattle.round.specs.Pieces.{vectorsOf};
-ghost use Rattle.round.specs.FivePass.{middleFive};
+ghost use Rattle.field.specs.Vector.{sub_v};
+ghost use Rattle.system.specs.System.{system_refusal};
+ghost use Rattle.protocol.specs.Protocols.{r1_of, t1_of, card_three, unmasked, simulated_e1, simulated_mask, simulated as simulated_of};
+ghost use Rattle.protocol.specs.Rounds.{map_of};
+ghost use Rattle.round.specs.Pieces.{vectors_of};
+ghost use Rattle.round.specs.FivePass.{middle_five};
 
 use crate::pieces::{Middle, Vectors};
 use field::{add_vectors, mul_vector, sub_vectors};
@@ -15,22 +15,22 @@ use slices::byte_at;
 
 // r1 = s - r0.
 pub fn r1_of(q: u8, n: u8, s: [u8; 96], r0: [u8; 96]) -> [u8; 96]
-    ensures { result ≡ r1Of (subV (ops q) n) s r0 }
+    ensures { result ≡ r1_of (sub_v (ops q) n) s r0 }
 {
     sub_vectors(q, n, s, r0)
 }
 
 // t1 = r0 - t0, of three passes.
 pub fn t1_of(q: u8, n: u8, r0: [u8; 96], t0: [u8; 96]) -> [u8; 96]
-    ensures { result ≡ t1Of (subV (ops q) n) r0 t0 }
+    ensures { result ≡ t1_of (sub_v (ops q) n) r0 t0 }
 {
     sub_vectors(q, n, r0, t0)
 }
 
 // Three passes: r1, t1, e1 and c0's second vector.
 pub fn card_three(system: &[u8], s: [u8; 96], r0: [u8; 96], t0: [u8; 96], e0: [u8; 96]) -> Vectors
-    requires { systemRefusal system.now ≡ 0 }
-    ensures { vectorsOf result ≡ cardThree (mapOf system.now) s r0 t0 e0 }
+    requires { system_refusal system.now ≡ 0 }
+    ensures { vectors_of result ≡ card_three (map_of system.now) s r0 t0 e0 }
 {
     let q = byte_at(system, 0);
     let n = byte_at(system, 1);
@@ -49,8 +49,8 @@ pub fn card_three(system: &[u8], s: [u8; 96], r0: [u8; 96], t0: [u8; 96], e0: [u
 
 // Five passes: t1 and e1 for α.
 pub fn middle(system: &[u8], alpha: u8, r0: [u8; 96], t0: [u8; 96], e0: [u8; 96]) -> Middle
-    requires { systemRefusal system.now ≡ 0 }
-    ensures { result ≡ middleFive system.now alpha r0 t0 e0 }
+    requires { system_refusal system.now ≡ 0 }
+    ensures { result ≡ middle_five system.now alpha r0 t0 e0 }
 {
     let q = byte_at(system, 0);
     let n = byte_at(system, 1);
@@ -63,8 +63,8 @@ pub fn middle(system: &[u8], alpha: u8, r0: [u8; 96], t0: [u8; 96], e0: [u8; 96]
 
 // v - F(r1) - G(t1,r1) - e1, with which challenge 1 opens c0.
 pub fn unmask(system: &[u8], v: [u8; 96], r1: [u8; 96], t1: [u8; 96], e1: [u8; 96]) -> [u8; 96]
-    requires { systemRefusal system.now ≡ 0 }
-    ensures { result ≡ unmasked (mapOf system.now) v r1 t1 e1 }
+    requires { system_refusal system.now ≡ 0 }
+    ensures { result ≡ unmasked (map_of system.now) v r1 t1 e1 }
 {
     let q = byte_at(system, 0);
     let m = byte_at(system, 2);
@@ -81,8 +81,8 @@ fn simulated_e1(
     r0: [u8; 96],
     e0: [u8; 96],
 ) -> [u8; 96]
-    requires { systemRefusal system.now ≡ 0 }
-    ensures { result ≡ simulatedE1 (mapOf system.now) unanswered v s r0 e0 }
+    requires { system_refusal system.now ≡ 0 }
+    ensures { result ≡ simulated_e1 (map_of system.now) unanswered v s r0 e0 }
 {
     let q = byte_at(system, 0);
     let m = byte_at(system, 2);
@@ -106,8 +106,8 @@ fn simulated_mask(
     e0: [u8; 96],
     e1: [u8; 96],
 ) -> [u8; 96]
-    requires { systemRefusal system.now ≡ 0 }
-    ensures { result ≡ simulatedMask (mapOf system.now) unanswered v r1 t0 t1 e0 e1 }
+    requires { system_refusal system.now ≡ 0 }
+    ensures { result ≡ simulated_mask (map_of system.now) unanswered v r1 t0 t1 e0 e1 }
 {
     let q = byte_at(system, 0);
     let m = byte_at(system, 2);
@@ -127,8 +127,8 @@ pub fn simulated(
     t0: [u8; 96],
     e0: [u8; 96],
 ) -> Vectors
-    requires { systemRefusal system.now ≡ 0 }
-    ensures { vectorsOf result ≡ simulatedOf (mapOf system.now) unanswered v s r0 t0 e0 }
+    requires { system_refusal system.now ≡ 0 }
+    ensures { vectors_of result ≡ simulated_of (map_of system.now) unanswered v s r0 t0 e0 }
 {
     let q = byte_at(system, 0);
     let n = byte_at(system, 1);

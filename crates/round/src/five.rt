@@ -1,11 +1,11 @@
 // Five passes: the commitments, the reply to a challenge, and the string with which a reply opens one of them.
 ghost use Rattle.std.specs.Prelude.{◌≡◌};
-ghost use Rattle.system.specs.System.{systemRefusal};
+ghost use Rattle.system.specs.System.{system_refusal};
 ghost use Rattle.commitment.specs.Texts.{TextOf};
-ghost use Rattle.protocol.specs.Protocols.{unmaskedBy};
-ghost use Rattle.protocol.specs.Rounds.{mapOf};
-ghost use Rattle.round.specs.Openings.{stringOf, openingAt};
-ghost use Rattle.round.specs.FivePass.{commitmentsFive, replyFive, openingsFive};
+ghost use Rattle.protocol.specs.Protocols.{unmasked_by};
+ghost use Rattle.protocol.specs.Rounds.{map_of};
+ghost use Rattle.round.specs.Openings.{string_of, opening_at};
+ghost use Rattle.round.specs.FivePass.{commitments_five, reply_five, openings_five};
 
 use crate::card::r1_of;
 use crate::pieces::{CommitmentsFive, Middle, ReplyFive, Rhos};
@@ -24,8 +24,8 @@ pub fn commitments_five(
     e0: [u8; 96],
     rhos: Rhos,
 ) -> CommitmentsFive
-    requires { systemRefusal system.now ≡ 0 }
-    ensures { result ≡ commitmentsFive d system.now s r0 t0 e0 rhos }
+    requires { system_refusal system.now ≡ 0 }
+    ensures { result ≡ commitments_five d system.now s r0 t0 e0 rhos }
 {
     let q = byte_at(system, 0);
     let n = byte_at(system, 1);
@@ -42,7 +42,7 @@ pub fn commitments_five(
 
 // The reply to a challenge.
 pub fn reply_five(q: u8, n: u8, s: [u8; 96], r0: [u8; 96], rhos: Rhos, challenge: u8) -> ReplyFive
-    ensures { result ≡ replyFive q n s r0 rhos challenge }
+    ensures { result ≡ reply_five q n s r0 rhos challenge }
 {
     let rho0 = rhos.rho0;
     let rho1 = rhos.rho1;
@@ -64,8 +64,8 @@ fn unmasked_by(
     t1: [u8; 96],
     e1: [u8; 96],
 ) -> [u8; 96]
-    requires { systemRefusal system.now ≡ 0 }
-    ensures { result ≡ unmaskedBy (mapOf system.now) alpha v x t1 e1 }
+    requires { system_refusal system.now ≡ 0 }
+    ensures { result ≡ unmasked_by (map_of system.now) alpha v x t1 e1 }
 {
     let q = byte_at(system, 0);
     let m = byte_at(system, 2);
@@ -83,8 +83,8 @@ pub fn opening_five(
     challenge: u8,
     reply: ReplyFive,
 ) -> Text
-    requires { systemRefusal system.now ≡ 0 }
-    ensures { TextOf (stringOf d (openingAt (openingsFive system.now alpha v sent challenge reply) 0)) 0 result }
+    requires { system_refusal system.now ≡ 0 }
+    ensures { TextOf (string_of d (opening_at (openings_five system.now alpha v sent challenge reply) 0)) 0 result }
 {
     let q = byte_at(system, 0);
     let n = byte_at(system, 1);

@@ -1,11 +1,11 @@
 // Three passes: the commitments, the reply to a challenge, and the strings with which a reply opens two of them.
 ghost use Rattle.std.specs.Prelude.{ℕ, ◌≡◌, List};
-ghost use Rattle.system.specs.System.{systemRefusal};
+ghost use Rattle.system.specs.System.{system_refusal};
 ghost use Rattle.commitment.specs.Texts.{Room, TextOf};
 ghost use Rattle.round.specs.declared.pieces.ReplyThree.{ReplyThree as ReplyThree·};
-ghost use Rattle.round.specs.Pieces.{vectorsOf};
-ghost use Rattle.round.specs.Openings.{stringOf, openingAt};
-ghost use Rattle.round.specs.ThreePass.{commitmentsThree, replyThree, openingsThree};
+ghost use Rattle.round.specs.Pieces.{vectors_of};
+ghost use Rattle.round.specs.Openings.{string_of, opening_at};
+ghost use Rattle.round.specs.ThreePass.{commitments_three, reply_three, openings_three};
 
 use crate::card::unmask;
 use crate::pieces::{CommitmentsThree, ReplyThree, Rhos, Vectors};
@@ -16,7 +16,7 @@ use slices::byte_at;
 
 // c0, c1 and c2.
 pub fn commitments_three(d: Domain, n: u8, m: u8, w: Vectors, rhos: Rhos) -> CommitmentsThree
-    ensures { result ≡ commitmentsThree d n m (vectorsOf w) rhos }
+    ensures { result ≡ commitments_three d n m (vectors_of w) rhos }
 {
     let r1 = w.r1;
     let t0 = w.t0;
@@ -36,7 +36,7 @@ pub fn commitments_three(d: Domain, n: u8, m: u8, w: Vectors, rhos: Rhos) -> Com
 
 // The reply to a challenge.
 pub fn reply_three(w: Vectors, rhos: Rhos, challenge: u8) -> ReplyThree
-    ensures { result ≡ replyThree (vectorsOf w) rhos challenge }
+    ensures { result ≡ reply_three (vectors_of w) rhos challenge }
 {
     let r0 = w.r0;
     let r1 = w.r1;
@@ -74,7 +74,7 @@ pub fn reply_three(w: Vectors, rhos: Rhos, challenge: u8) -> ReplyThree
 
 // The number of the commitment that the first opening of a reply is of, whatever the reply.
 pub fn first_number(challenge: u8) -> u8
-    ensures { (b v : List ℕ) (r : ReplyThree·) → result ≡ (openingAt (openingsThree b v challenge r) 0).k }
+    ensures { (b v : List ℕ) (r : ReplyThree·) → result ≡ (opening_at (openings_three b v challenge r) 0).k }
 {
     match challenge {
         0 => 1,
@@ -90,8 +90,8 @@ pub fn first_opening(
     challenge: u8,
     reply: ReplyThree,
 ) -> Text
-    requires { systemRefusal system.now ≡ 0 }
-    ensures { TextOf (stringOf d (openingAt (openingsThree system.now v challenge reply) 0)) 96 result }
+    requires { system_refusal system.now ≡ 0 }
+    ensures { TextOf (string_of d (opening_at (openings_three system.now v challenge reply) 0)) 96 result }
 {
     let q = byte_at(system, 0);
     let n = byte_at(system, 1);
@@ -116,7 +116,7 @@ pub fn first_opening(
 
 // The string of the second opening, whatever v: of c1 for challenge 2, else of c2.
 pub fn second_opening(system: &[u8], d: Domain, challenge: u8, reply: ReplyThree) -> Text
-    ensures { Room 96 result × ((v : List ℕ) → TextOf (stringOf d (openingAt (openingsThree system.now v challenge reply) 1)) 96 result) }
+    ensures { Room 96 result × ((v : List ℕ) → TextOf (string_of d (opening_at (openings_three system.now v challenge reply) 1)) 96 result) }
 {
     let n = byte_at(system, 1);
     let m = byte_at(system, 2);

@@ -1,6 +1,6 @@
 // Cases of the card's calls: commit, the answer to α, reply. They answer 0.
 ghost use Rattle.std.specs.Prelude.{◌≡◌};
-ghost use Rattle.system.specs.System.{systemRefusal};
+ghost use Rattle.system.specs.System.{system_refusal};
 
 use crate::compare::{
     same_five_commitments, same_middle, same_reply_five, same_reply_three, same_three_commitments,
@@ -17,7 +17,7 @@ use scheme::{Scheme, is_scheme, scheme_of};
 use slices::byte_at;
 
 pub fn commit_case<'a>(file: &'a [u8], number: u8, at: usize, system: &'a [u8]) -> Outcome
-    requires { systemRefusal system.now ≡ 0 }
+    requires { system_refusal system.now ≡ 0 }
 {
     let scheme = cases::load_byte(file, at);
     let s = cases::load_small(file, scheme.next);
@@ -32,7 +32,7 @@ pub fn commit_case<'a>(file: &'a [u8], number: u8, at: usize, system: &'a [u8]) 
 
 // Whether the card's commitments are those expected.
 fn commits(system: &[u8], scheme: Scheme, s: Small, lent: Small, expected: Small) -> bool
-    requires { systemRefusal system.now ≡ 0 }
+    requires { system_refusal system.now ≡ 0 }
 {
     let secret = vector_of(s);
     let held = lent_of(system, lent);
@@ -48,7 +48,7 @@ fn commits(system: &[u8], scheme: Scheme, s: Small, lent: Small, expected: Small
 }
 
 fn commits_three(d: Domain, system: &[u8], s: [u8; 96], lent: Lent) -> CommitmentsThree
-    requires { systemRefusal system.now ≡ 0 }
+    requires { system_refusal system.now ≡ 0 }
 {
     let n = byte_at(system, 1);
     let m = byte_at(system, 2);
@@ -57,7 +57,7 @@ fn commits_three(d: Domain, system: &[u8], s: [u8; 96], lent: Lent) -> Commitmen
 }
 
 fn commits_five(d: Domain, system: &[u8], s: [u8; 96], lent: Lent) -> CommitmentsFive
-    requires { systemRefusal system.now ≡ 0 }
+    requires { system_refusal system.now ≡ 0 }
 {
     let r0 = lent.r0;
     let t0 = lent.t0;
@@ -68,7 +68,7 @@ fn commits_five(d: Domain, system: &[u8], s: [u8; 96], lent: Lent) -> Commitment
 
 // The card's vectors in three passes.
 fn vectors_three(system: &[u8], s: [u8; 96], lent: Lent) -> Vectors
-    requires { systemRefusal system.now ≡ 0 }
+    requires { system_refusal system.now ≡ 0 }
 {
     let r0 = lent.r0;
     let t0 = lent.t0;
@@ -77,7 +77,7 @@ fn vectors_three(system: &[u8], s: [u8; 96], lent: Lent) -> Vectors
 }
 
 pub fn answer_case<'a>(file: &'a [u8], number: u8, at: usize, system: &'a [u8]) -> Outcome
-    requires { systemRefusal system.now ≡ 0 }
+    requires { system_refusal system.now ≡ 0 }
 {
     let alpha = cases::load_byte(file, at);
     let lent = cases::load_small(file, alpha.next);
@@ -91,7 +91,7 @@ pub fn answer_case<'a>(file: &'a [u8], number: u8, at: usize, system: &'a [u8]) 
 
 // Whether the card's t1 and e1 are those expected.
 fn answers(system: &[u8], alpha: u8, lent: Small, expected: Small) -> bool
-    requires { systemRefusal system.now ≡ 0 }
+    requires { system_refusal system.now ≡ 0 }
 {
     let n = byte_at(system, 1);
     let m = byte_at(system, 2);
@@ -103,7 +103,7 @@ fn answers(system: &[u8], alpha: u8, lent: Small, expected: Small) -> bool
 }
 
 pub fn reply_case<'a>(file: &'a [u8], number: u8, at: usize, system: &'a [u8]) -> Outcome
-    requires { systemRefusal system.now ≡ 0 }
+    requires { system_refusal system.now ≡ 0 }
 {
     let scheme = cases::load_byte(file, at);
     let s = cases::load_small(file, scheme.next);
@@ -133,7 +133,7 @@ fn replies(
     challenge: u8,
     expected: Small,
 ) -> bool
-    requires { systemRefusal system.now ≡ 0 }
+    requires { system_refusal system.now ≡ 0 }
 {
     let q = byte_at(system, 0);
     let n = byte_at(system, 1);

@@ -1,6 +1,6 @@
 // Cases of the judgement of a round.
 ghost use Rattle.std.specs.Prelude.{◌≡◌};
-ghost use Rattle.system.specs.System.{systemRefusal};
+ghost use Rattle.system.specs.System.{system_refusal};
 
 use crate::card::{domain_of, vector_of};
 use cases::{Outcome, Small};
@@ -8,7 +8,7 @@ use scheme::{Scheme, is_scheme, scheme_of};
 
 // Its answer is 1 for accept and 0 for reject.
 pub fn judge_case<'a>(file: &'a [u8], number: u8, at: usize, system: &'a [u8]) -> Outcome
-    requires { systemRefusal system.now ≡ 0 }
+    requires { system_refusal system.now ≡ 0 }
 {
     let scheme = cases::load_byte(file, at);
     let v = cases::load_small(file, scheme.next);
@@ -41,7 +41,7 @@ fn accepts(
     challenge: u8,
     reply: Small,
 ) -> bool
-    requires { systemRefusal system.now ≡ 0 }
+    requires { system_refusal system.now ≡ 0 }
 {
     let sent = commitments.bytes;
     let between = turn.bytes;

@@ -6,7 +6,7 @@ mod compare;
 mod judge;
 
 ghost use Rattle.std.specs.Prelude.{◌≡◌};
-ghost use Rattle.system.specs.System.{systemRefusal};
+ghost use Rattle.system.specs.System.{system_refusal};
 
 use crate::card::{answer_case, commit_case, reply_case};
 use crate::judge::judge_case;
@@ -40,7 +40,7 @@ fn checked_case<'a>(file: &'a [u8], head: Head, at: usize, system: &'a [u8]) -> 
 
 // The case of a kind, whose pieces behind the system start at `at`.
 fn call_case<'a>(file: &'a [u8], head: Head, at: usize, system: &'a [u8]) -> Outcome
-    requires { systemRefusal system.now ≡ 0 }
+    requires { system_refusal system.now ≡ 0 }
 {
     if head.kind == COMMIT {
         commit_case(file, head.number, at, system)

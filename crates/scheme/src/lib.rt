@@ -5,8 +5,8 @@
 #![tactic(auto)]
 
 ghost use Rattle.std.specs.Prelude.{◌≡◌, ◌*◌, ◌≤◌};
-ghost use Rattle.scheme.specs.Scheme.{byteOf, schemeOf, isScheme, isRounds, challenges as challengesOf, commitmentCount, openedCount, hasAlpha};
-ghost use Rattle.scheme.specs.Scheme.{drawnLength, commitmentsLength, lentLength, turnLength, vectorsLength, rhosLength, replyLength, exchangeLength};
+ghost use Rattle.scheme.specs.Scheme.{byte_of, scheme_of, is_scheme, is_rounds, challenges as challenges_of, commitment_count, opened_count, has_alpha};
+ghost use Rattle.scheme.specs.Scheme.{drawn_length, commitments_length, lent_length, turn_length, vectors_length, rhos_length, reply_length, exchange_length};
 
 #[derive(Clone, Copy)]
 pub enum Scheme {
@@ -16,7 +16,7 @@ pub enum Scheme {
 
 // The byte of a scheme.
 pub fn byte_of(scheme: Scheme) -> u8
-    ensures { result ≡ byteOf scheme }
+    ensures { result ≡ byte_of scheme }
 {
     match scheme {
         Scheme::ThreePass => 3,
@@ -26,7 +26,7 @@ pub fn byte_of(scheme: Scheme) -> u8
 
 // The scheme of a byte; of a byte that is no scheme's, five passes, which `is_scheme` tells.
 pub fn scheme_of(byte: u8) -> Scheme
-    ensures { result ≡ schemeOf byte }
+    ensures { result ≡ scheme_of byte }
 {
     match byte {
         3 => Scheme::ThreePass,
@@ -36,21 +36,21 @@ pub fn scheme_of(byte: u8) -> Scheme
 
 // Whether a byte is a scheme's.
 pub fn is_scheme(byte: u8) -> bool
-    ensures { result ≡ isScheme byte }
+    ensures { result ≡ is_scheme byte }
 {
     byte_of(scheme_of(byte)) == byte
 }
 
 // Whether a session has so many rounds: a byte is at most 255.
 pub fn is_rounds(rounds: u8) -> bool
-    ensures { result ≡ isRounds rounds }
+    ensures { result ≡ is_rounds rounds }
 {
     1 <= rounds
 }
 
 // How many challenges there are; they are counted from 0.
 pub fn challenges(scheme: Scheme) -> u8
-    ensures { result ≡ challengesOf scheme }
+    ensures { result ≡ challenges_of scheme }
 {
     match scheme {
         Scheme::ThreePass => 3,
@@ -60,7 +60,7 @@ pub fn challenges(scheme: Scheme) -> u8
 
 // How many commitments a round has, and ρ are lent for it.
 pub fn commitment_count(scheme: Scheme) -> u8
-    ensures { (result ≡ commitmentCount scheme) × (result ≤ 3) }
+    ensures { (result ≡ commitment_count scheme) × (result ≤ 3) }
 {
     match scheme {
         Scheme::ThreePass => 3,
@@ -70,7 +70,7 @@ pub fn commitment_count(scheme: Scheme) -> u8
 
 // How many of them a reply opens.
 pub fn opened_count(scheme: Scheme) -> u8
-    ensures { (result ≡ openedCount scheme) × (result ≤ 2) }
+    ensures { (result ≡ opened_count scheme) × (result ≤ 2) }
 {
     match scheme {
         Scheme::ThreePass => 2,
@@ -80,7 +80,7 @@ pub fn opened_count(scheme: Scheme) -> u8
 
 // Whether α, t1 and e1 come between commitments and challenge.
 pub fn has_alpha(scheme: Scheme) -> bool
-    ensures { result ≡ hasAlpha scheme }
+    ensures { result ≡ has_alpha scheme }
 {
     match scheme {
         Scheme::ThreePass => false,
@@ -90,7 +90,7 @@ pub fn has_alpha(scheme: Scheme) -> bool
 
 // The elements that are lent for a round.
 pub fn drawn_length(scheme: Scheme, n: u8, m: u8) -> usize
-    ensures { (result ≡ drawnLength scheme n m) × (result ≤ 765) }
+    ensures { (result ≡ drawn_length scheme n m) × (result ≤ 765) }
 {
     match scheme {
         Scheme::ThreePass => n as usize + n as usize + m as usize,
@@ -100,21 +100,21 @@ pub fn drawn_length(scheme: Scheme, n: u8, m: u8) -> usize
 
 // The bytes of a round's commitments.
 pub fn commitments_length(scheme: Scheme) -> usize
-    ensures { (result ≡ commitmentsLength scheme) × (result ≤ 96) }
+    ensures { (result ≡ commitments_length scheme) × (result ≤ 96) }
 {
     32 * commitment_count(scheme) as usize
 }
 
 // The bytes that are lent for a round: elements, then ρ.
 pub fn lent_length(scheme: Scheme, n: u8, m: u8) -> usize
-    ensures { (result ≡ lentLength scheme n m) × (result ≤ 861) }
+    ensures { (result ≡ lent_length scheme n m) × (result ≤ 861) }
 {
     drawn_length(scheme, n, m) + commitments_length(scheme)
 }
 
 // The bytes of α, t1 and e1, where there are any.
 pub fn turn_length(scheme: Scheme, n: u8, m: u8) -> usize
-    ensures { (result ≡ turnLength scheme n m) × (result ≤ 511) }
+    ensures { (result ≡ turn_length scheme n m) × (result ≤ 511) }
 {
     match scheme {
         Scheme::ThreePass => 0,
@@ -124,7 +124,7 @@ pub fn turn_length(scheme: Scheme, n: u8, m: u8) -> usize
 
 // The elements of a reply.
 pub fn vectors_length(scheme: Scheme, n: u8, m: u8) -> usize
-    ensures { (result ≡ vectorsLength scheme n m) × (result ≤ 765) }
+    ensures { (result ≡ vectors_length scheme n m) × (result ≤ 765) }
 {
     match scheme {
         Scheme::ThreePass => n as usize + n as usize + m as usize,
@@ -134,21 +134,21 @@ pub fn vectors_length(scheme: Scheme, n: u8, m: u8) -> usize
 
 // The bytes of ρ in a reply.
 pub fn rhos_length(scheme: Scheme) -> usize
-    ensures { (result ≡ rhosLength scheme) × (result ≤ 64) }
+    ensures { (result ≡ rhos_length scheme) × (result ≤ 64) }
 {
     32 * opened_count(scheme) as usize
 }
 
 // The bytes of a reply.
 pub fn reply_length(scheme: Scheme, n: u8, m: u8) -> usize
-    ensures { (result ≡ replyLength scheme n m) × (result ≤ 829) }
+    ensures { (result ≡ reply_length scheme n m) × (result ≤ 829) }
 {
     vectors_length(scheme, n, m) + rhos_length(scheme)
 }
 
 // The bytes of an exchange: α, t1 and e1 in scheme 5; the challenge; the reply.
 pub fn exchange_length(scheme: Scheme, n: u8, m: u8) -> usize
-    ensures { (result ≡ exchangeLength scheme n m) × (result ≤ 1341) }
+    ensures { (result ≡ exchange_length scheme n m) × (result ≤ 1341) }
 {
     turn_length(scheme, n, m) + (1 + reply_length(scheme, n, m))
 }

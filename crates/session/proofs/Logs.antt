@@ -11,21 +11,21 @@ use Rattle.session.specs.Session.{Log, put}
 
 -- ---- a message or none
 
-isGiven : {A : Type 0} → Option A → Bool
-isGiven none = false
-isGiven (some x) = true
+is_given : {A : Type 0} → Option A → Bool
+is_given none = false
+is_given (some x) = true
 
-messageOr : {A : Type 0} → A → Option A → A
-messageOr x none = x
-messageOr x (some y) = y
+message_or : {A : Type 0} → A → Option A → A
+message_or x none = x
+message_or x (some y) = y
 
-pub none-given : {A : Type 0} (x : A) → none ≡ some x → ⊥
-unfolding isGiven
-none-given x e = false≢true (ap isGiven e)
+pub none_given : {A : Type 0} (x : A) → none ≡ some x → ⊥
+unfolding is_given
+none_given x e = false≢true (ap is_given e)
 
-pub same-message : {A : Type 0} (x y : A) → some x ≡ some y → x ≡ y
-unfolding messageOr
-same-message x y e = ap (messageOr x) e
+pub same_message : {A : Type 0} (x y : A) → some x ≡ some y → x ≡ y
+unfolding message_or
+same_message x y e = ap (message_or x) e
 
 -- ---- logs
 
@@ -37,38 +37,38 @@ Clear log r = (k : ℕ) → r ≤ k → log k ≡ none
 abbrev pub Stays : {A : Type 0} → Log A → Log A → Type 0
 Stays {A = A} old new = (k : ℕ) (x : A) → old k ≡ some x → new k ≡ some x
 
-pub put-there : {A : Type 0} (log : Log A) (r : ℕ) (x : A) → put log r x r ≡ some x
+pub put_there : {A : Type 0} (log : Log A) (r : ℕ) (x : A) → put log r x r ≡ some x
 unfolding put
-put-there log r x = rw (eq-eqb r r refl)
+put_there log r x = rw (eq-eqb r r refl)
 
-pub put-other : {A : Type 0} (log : Log A) (r : ℕ) (x : A) (k : ℕ) → (k ≡ r → ⊥) → put log r x k ≡ log k
+pub put_other : {A : Type 0} (log : Log A) (r : ℕ) (x : A) (k : ℕ) → (k ≡ r → ⊥) → put log r x k ≡ log k
 unfolding put
-put-other log r x k other = rw (ne_eqb k r other)
+put_other log r x k other = rw (ne_eqb k r other)
 
-pub put-stays : {A : Type 0} (log : Log A) (r : ℕ) (x : A) → Clear log r → Stays log (put log r x)
-put-stays log r x clear k y e = put-other log r x k (λ same. none-given y (sym (clear k (rw same (le_refl r))) ∙ e)) ∙ e
+pub put_stays : {A : Type 0} (log : Log A) (r : ℕ) (x : A) → Clear log r → Stays log (put log r x)
+put_stays log r x clear k y e = put_other log r x k (λ same. none_given y (sym (clear k (rw same (le_refl r))) ∙ e)) ∙ e
 
-pub clear-next : {A : Type 0} (log : Log A) (r : ℕ) → Clear log r → Clear log (r + 1)
-clear-next log r clear k h = clear k (omega arith)
+pub clear_next : {A : Type 0} (log : Log A) (r : ℕ) → Clear log r → Clear log (r + 1)
+clear_next log r clear k h = clear k (omega arith)
 
-pub put-clear : {A : Type 0} (log : Log A) (r : ℕ) (x : A) → Clear log r → Clear (put log r x) (r + 1)
-put-clear log r x clear k h = put-other log r x k (λ same. absurd (omega arith)) ∙ clear k (omega arith)
+pub put_clear : {A : Type 0} (log : Log A) (r : ℕ) (x : A) → Clear log r → Clear (put log r x) (r + 1)
+put_clear log r x clear k h = put_other log r x k (λ same. absurd (omega arith)) ∙ clear k (omega arith)
 
-pub stays-on : {A : Type 0} (old mid new : Log A) → Stays old mid → Stays mid new → Stays old new
-stays-on old mid new first then k x e = then k x (first k x e)
+pub stays_on : {A : Type 0} (old mid new : Log A) → Stays old mid → Stays mid new → Stays old new
+stays_on old mid new first then k x e = then k x (first k x e)
 
 -- a log stays within another where what is put stands there too
-pub put-within : {A : Type 0} (log other : Log A) (r : ℕ) (x : A) → Stays log other → other r ≡ some x → Stays (put log r x) other
-put-within log other r x within there k y e =
+pub put_within : {A : Type 0} (log other : Log A) (r : ℕ) (x : A) → Stays log other → other r ≡ some x → Stays (put log r x) other
+put_within log other r x within there k y e =
     elim (ℕ_discrete k r) [
-      | yes same ↦ ap other same ∙ there ∙ ap some (same-message x y (sym (ap (put log r x) same ∙ put-there log r x) ∙ e))
-      | no differs ↦ within k y (sym (put-other log r x k differs) ∙ e)
+      | yes same ↦ ap other same ∙ there ∙ ap some (same_message x y (sym (ap (put log r x) same ∙ put_there log r x) ∙ e))
+      | no differs ↦ within k y (sym (put_other log r x k differs) ∙ e)
     ]
 
 -- what was given for a round is given before the first round for which nothing is
-pub given-before : {A : Type 0} (log : Log A) (r k : ℕ) (x : A) → Clear log r → log k ≡ some x → k < r
-given-before log r k x clear e =
+pub given_before : {A : Type 0} (log : Log A) (r k : ℕ) (x : A) → Clear log r → log k ≡ some x → k < r
+given_before log r k x clear e =
     elim (dec_le r k) [
-      | yes h ↦ absurd (none-given x (sym (clear k h) ∙ e))
+      | yes h ↦ absurd (none_given x (sym (clear k h) ∙ e))
       | no h ↦ lt_of_not-le h
     ]

@@ -5,143 +5,143 @@ use mathlib.Core.Bool.{true}
 use mathlib.Core.List.{List, ◌∷◌}
 use mathlib.Core.Option.{some}
 use native.Mathlib.Omega.{arith}
-use Rattle.field.specs.Vector.{asVector}
-use Rattle.system.specs.System.{nOf, mOf, systemRefusal, F}
+use Rattle.field.specs.Vector.{as_vector}
+use Rattle.system.specs.System.{n_of, m_of, system_refusal, F}
 use Rattle.system.proofs.SystemLayout.{accepted}
 use Rattle.scheme.specs.declared.Scheme.{Scheme}
 use Rattle.scheme.specs.declared.Scheme.TheVariants.{ThreePass, FivePass}
 use Rattle.commitment.specs.declared.Domain.{Domain}
 use Rattle.protocol.specs.Rounds.{IsX}
-use Rattle.exchange.specs.Messages.{accepts, threeCommitments, fiveCommitments, replyThreeBytes, replyFiveBytes}
-use Rattle.exchange.specs.Card.{threeCommitted, threeReplied, fiveCommitted}
-use Rattle.honest.proofs.Honest.{fiveReplied, honest-three, honest-five}
-use Rattle.card_state.specs.Card.{formedCommitments}
-use Rattle.carrier_state.specs.Carrier.{replyRefusal, acceptsReply}
-use Rattle.session.specs.Session.{Terms, passes, domainOf, Log, Given, Asked, World}
+use Rattle.exchange.specs.Messages.{accepts, three_commitments, five_commitments, reply_three_bytes, reply_five_bytes}
+use Rattle.exchange.specs.Card.{three_committed, three_replied, five_committed}
+use Rattle.honest.proofs.Honest.{five_replied, honest_three, honest_five}
+use Rattle.card_state.specs.Card.{formed_commitments}
+use Rattle.carrier_state.specs.Carrier.{reply_refusal, accepts_reply}
+use Rattle.session.specs.Session.{Terms, passes, domain_of, Log, Given, Asked, World}
 use Rattle.session.specs.Histories.{Turn}
 use Rattle.session.specs.Honest.{RoundAccepted}
-use Rattle.session.proofs.Logs.{same-message, given-before}
-use Rattle.session.proofs.Schemes.{by-scheme, not-both-schemes, three-challenges, five-challenges}
+use Rattle.session.proofs.Logs.{same_message, given_before}
+use Rattle.session.proofs.Schemes.{by_scheme, not_both_schemes, three_challenges, five_challenges}
 use Rattle.session.proofs.CarrierHistory as Ca
-use Rattle.session.proofs.CarrierHistory.{CarrierOpens, put-accepted, turn-within}
+use Rattle.session.proofs.CarrierHistory.{CarrierOpens, put_accepted, turn_within}
 use Rattle.session.proofs.CarrierSide.{moved}
 use Rattle.session.proofs.States as St
-use Rattle.session.proofs.States.{Link, Past, asked-same}
+use Rattle.session.proofs.States.{Link, Past, asked_same}
 
 -- what two openings that are not refused give
 pub record Opens (o : Terms) : Type 0 where
-  pub good : systemRefusal o.system ≡ 0
+  pub good : system_refusal o.system ≡ 0
   pub few : o.rounds < 256
-  pub some-rounds : 0 < o.rounds
-  pub secret-is : IsX o.system (St.secretOf o)
-  pub key-is : F o.system (St.secretOf o) ≡ asVector o.key
+  pub some_rounds : 0 < o.rounds
+  pub secret_is : IsX o.system (St.secret_of o)
+  pub key_is : F o.system (St.secret_of o) ≡ as_vector o.key
 
-pub of-carrier : (o : Terms) → Opens o → CarrierOpens o
-of-carrier o k =
+pub of_carrier : (o : Terms) → Opens o → CarrierOpens o
+of_carrier o k =
     let a = accepted o.system k.good in
-    record { some-rounds = k.some-rounds; few = k.few; small = omega (arith, a.n-high, a.m-high) }
+    record { some_rounds = k.some_rounds; few = k.few; small = omega (arith, a.n_high, a.m_high) }
 
 -- the turn of five passes
-five-turn : (scheme : Scheme) (alphas : Log ℕ) (middles : Log (List ℕ)) (r : ℕ) (turn : List ℕ) → scheme ≡ FivePass → Turn scheme alphas middles r turn →
+five_turn : (scheme : Scheme) (alphas : Log ℕ) (middles : Log (List ℕ)) (r : ℕ) (turn : List ℕ) → scheme ≡ FivePass → Turn scheme alphas middles r turn →
     (α : ℕ) × (l : List ℕ) × (alphas r ≡ some α) × (middles r ≡ some l) × (turn ≡ α ∷ l)
 unfolding Turn
-five-turn scheme alphas middles r turn five sent-on = rw five at sent-on
+five_turn scheme alphas middles r turn five sent_on = rw five at sent_on
 
 -- ---- what the card gave, by the scheme
 
-three-commitments : (scheme : Scheme) (d : Domain) (b s lent : List ℕ) → scheme ≡ ThreePass →
-    formedCommitments scheme d b s lent ≡ threeCommitments (threeCommitted d b s lent)
-unfolding formedCommitments
-three-commitments scheme d b s lent three = rw three
+three_commitments_lem : (scheme : Scheme) (d : Domain) (b s lent : List ℕ) → scheme ≡ ThreePass →
+    formed_commitments scheme d b s lent ≡ three_commitments (three_committed d b s lent)
+unfolding formed_commitments
+three_commitments_lem scheme d b s lent three = rw three
 
-five-commitments : (scheme : Scheme) (d : Domain) (b s lent : List ℕ) → scheme ≡ FivePass →
-    formedCommitments scheme d b s lent ≡ fiveCommitments (fiveCommitted d b s lent)
-unfolding formedCommitments
-five-commitments scheme d b s lent five = rw five
+five_commitments_lem : (scheme : Scheme) (d : Domain) (b s lent : List ℕ) → scheme ≡ FivePass →
+    formed_commitments scheme d b s lent ≡ five_commitments (five_committed d b s lent)
+unfolding formed_commitments
+five_commitments_lem scheme d b s lent five = rw five
 
-three-reply : (scheme : Scheme) (b s lent : List ℕ) (challenge : ℕ) → scheme ≡ ThreePass →
-    St.replyBytes scheme b s lent challenge ≡ replyThreeBytes (nOf b) (mOf b) (threeReplied b s lent challenge)
-unfolding St.replyBytes
-three-reply scheme b s lent challenge three = rw three
+three_reply : (scheme : Scheme) (b s lent : List ℕ) (challenge : ℕ) → scheme ≡ ThreePass →
+    St.reply_bytes scheme b s lent challenge ≡ reply_three_bytes (n_of b) (m_of b) (three_replied b s lent challenge)
+unfolding St.reply_bytes
+three_reply scheme b s lent challenge three = rw three
 
-five-reply : (scheme : Scheme) (b s lent : List ℕ) (challenge : ℕ) → scheme ≡ FivePass →
-    St.replyBytes scheme b s lent challenge ≡ replyFiveBytes (nOf b) (fiveReplied b s lent challenge)
-unfolding St.replyBytes
-five-reply scheme b s lent challenge five = rw five
+five_reply : (scheme : Scheme) (b s lent : List ℕ) (challenge : ℕ) → scheme ≡ FivePass →
+    St.reply_bytes scheme b s lent challenge ≡ reply_five_bytes (n_of b) (five_replied b s lent challenge)
+unfolding St.reply_bytes
+five_reply scheme b s lent challenge five = rw five
 
 module _ (o : Terms) where
   module _ (k : Opens o) (g : Given) (a : Asked) (r : ℕ) (p : Past o g a r) (reply : List ℕ) (replied : g.replies r ≡ some reply) where
-    reply-is : reply ≡ St.givenReply o p.lent p.challenge
-    reply-is = same-message _ _ (sym replied ∙ p.reply-given)
+    reply_is : reply ≡ St.given_reply o p.lent p.challenge
+    reply_is = same_message _ _ (sym replied ∙ p.reply_given)
 
     -- in three passes, with any turn
-    three-accepted : passes o ≡ ThreePass → (c turn : List ℕ) (challenge : ℕ) → g.commitments r ≡ some c → a.challenges r ≡ some challenge →
-        accepts o.system (domainOf o) (asVector o.key) c turn challenge reply ≡ true
-    three-accepted three c turn challenge given asked =
-        let ec = same-message _ _ (sym given ∙ p.commitments-given) ∙ three-commitments (passes o) (domainOf o) o.system (St.secretOf o) p.lent three in
-        let ech = same-message _ _ (sym asked ∙ p.challenge-given) in
-        let er = reply-is ∙ three-reply (passes o) o.system (St.secretOf o) p.lent p.challenge three in
-        let few = three-challenges (passes o) p.challenge three p.challenge-value in
+    three_accepted : passes o ≡ ThreePass → (c turn : List ℕ) (challenge : ℕ) → g.commitments r ≡ some c → a.challenges r ≡ some challenge →
+        accepts o.system (domain_of o) (as_vector o.key) c turn challenge reply ≡ true
+    three_accepted three c turn challenge given asked =
+        let ec = same_message _ _ (sym given ∙ p.commitments_given) ∙ three_commitments_lem (passes o) (domain_of o) o.system (St.secret_of o) p.lent three in
+        let ech = same_message _ _ (sym asked ∙ p.challenge_given) in
+        let er = reply_is ∙ three_reply (passes o) o.system (St.secret_of o) p.lent p.challenge three in
+        let few = three_challenges (passes o) p.challenge three p.challenge_value in
         rw (ec, ech, er)
-        (honest-three o.system k.good (St.secretOf o) p.lent (domainOf o) (asVector o.key) k.key-is k.secret-is p.lends three turn p.challenge few)
+        (honest_three o.system k.good (St.secret_of o) p.lent (domain_of o) (as_vector o.key) k.key_is k.secret_is p.lends three turn p.challenge few)
 
     -- in five passes, with the α that was set and the t1 and e1 that were given
-    five-accepted : passes o ≡ FivePass → (c : List ℕ) (α : ℕ) (l : List ℕ) (challenge : ℕ) → g.commitments r ≡ some c → a.alphas r ≡ some α →
+    five_accepted : passes o ≡ FivePass → (c : List ℕ) (α : ℕ) (l : List ℕ) (challenge : ℕ) → g.commitments r ≡ some c → a.alphas r ≡ some α →
         g.middles r ≡ some l → a.challenges r ≡ some challenge → St.MiddleGiven o g a r p.lent →
-        accepts o.system (domainOf o) (asVector o.key) c (α ∷ l) challenge reply ≡ true
-    unfolding St.givenMiddle
-    five-accepted five c α l challenge given set sent-on asked (St.no-middle three) = absurd (not-both-schemes (passes o) three five)
-    five-accepted five c α l challenge given set sent-on asked (St.with-middle too β eβ em) =
-        let ec = same-message _ _ (sym given ∙ p.commitments-given) ∙ five-commitments (passes o) (domainOf o) o.system (St.secretOf o) p.lent five in
-        let eα = same-message α β (sym set ∙ eβ) in
-        let el = same-message l (St.givenMiddle o p.lent β) (sym sent-on ∙ em) in
-        let ech = same-message _ _ (sym asked ∙ p.challenge-given) in
-        let er = reply-is ∙ five-reply (passes o) o.system (St.secretOf o) p.lent p.challenge five in
-        let few = five-challenges (passes o) p.challenge five p.challenge-value in
+        accepts o.system (domain_of o) (as_vector o.key) c (α ∷ l) challenge reply ≡ true
+    unfolding St.given_middle
+    five_accepted five c α l challenge given set sent_on asked (St.no_middle three) = absurd (not_both_schemes (passes o) three five)
+    five_accepted five c α l challenge given set sent_on asked (St.with_middle_is too β eβ em) =
+        let ec = same_message _ _ (sym given ∙ p.commitments_given) ∙ five_commitments_lem (passes o) (domain_of o) o.system (St.secret_of o) p.lent five in
+        let eα = same_message α β (sym set ∙ eβ) in
+        let el = same_message l (St.given_middle o p.lent β) (sym sent_on ∙ em) in
+        let ech = same_message _ _ (sym asked ∙ p.challenge_given) in
+        let er = reply_is ∙ five_reply (passes o) o.system (St.secret_of o) p.lent p.challenge five in
+        let few = five_challenges (passes o) p.challenge five p.challenge_value in
         rw (ec, eα, el, ech, er)
-        (honest-five o.system k.good (St.secretOf o) p.lent (domainOf o) (asVector o.key) k.key-is k.secret-is p.lends five β p.challenge few)
+        (honest_five o.system k.good (St.secret_of o) p.lent (domain_of o) (as_vector o.key) k.key_is k.secret_is p.lends five β p.challenge few)
 
     -- by the scheme's check of the messages as they were given
-    given-accepted : (c turn : List ℕ) (challenge : ℕ) → g.commitments r ≡ some c → Turn (passes o) a.alphas g.middles r turn →
-        a.challenges r ≡ some challenge → accepts o.system (domainOf o) (asVector o.key) c turn challenge reply ≡ true
-    given-accepted c turn challenge given sent-on asked =
-        by-scheme (passes o) (λ three. three-accepted three c turn challenge given asked)
+    given_accepted : (c turn : List ℕ) (challenge : ℕ) → g.commitments r ≡ some c → Turn (passes o) a.alphas g.middles r turn →
+        a.challenges r ≡ some challenge → accepts o.system (domain_of o) (as_vector o.key) c turn challenge reply ≡ true
+    given_accepted c turn challenge given sent_on asked =
+        by_scheme (passes o) (λ three. three_accepted three c turn challenge given asked)
         (λ five.
-        let (α, l, set, got, is) = five-turn (passes o) a.alphas g.middles r turn five sent-on in
-        rw is (five-accepted five c α l challenge given set got asked p.middle-given))
+        let (α, l, set, got, is) = five_turn (passes o) a.alphas g.middles r turn five sent_on in
+        rw is (five_accepted five c α l challenge given set got asked p.middle_given))
 
   -- ---- take reply
 
-  module _ (k : Opens o) (w : World) (reply : List ℕ) (l : Link o w) (none : replyRefusal w.carrier o.system reply ≡ 0)
-      (given : w.history.given.replies w.history.carrierRound ≡ some reply) where
+  module _ (k : Opens o) (w : World) (reply : List ℕ) (l : Link o w) (none : reply_refusal w.carrier o.system reply ≡ 0)
+      (given : w.history.given.replies w.history.carrier_round ≡ some reply) where
     -- the round of a reply that is given is over at the card
-    replied-before : w.history.carrierRound < w.history.cardRound
-    replied-before = given-before w.history.given.replies w.history.cardRound w.history.carrierRound reply l.card-history.no-replies given
+    replied_before : w.history.carrier_round < w.history.card_round
+    replied_before = given_before w.history.given.replies w.history.card_round w.history.carrier_round reply l.card_history.no_replies given
 
-    taken : Ca.Checked o w.history.asked w.history.taken w.carrier w.history.carrierRound o.system reply
-    taken = Ca.reply-checked o (of-carrier o k) w o.system reply l.carrier-history none
+    taken : Ca.Checked o w.history.asked w.history.taken w.carrier w.history.carrier_round o.system reply
+    taken = Ca.reply_checked o (of_carrier o k) w o.system reply l.carrier_history none
 
-    pub round-accepted : RoundAccepted o w.history reply
-    round-accepted =
-        let r = w.history.carrierRound in
-        let ec = l.taken-given.commitments-given r _ taken.commitments-taken in
-        let et = turn-within _ _ _ _ _ r _ (λ i x e. e) l.taken-given.middles-given taken.turn-taken in
+    pub round_accepted : RoundAccepted o w.history reply
+    round_accepted =
+        let r = w.history.carrier_round in
+        let ec = l.taken_given.commitments_given r _ taken.commitments_taken in
+        let et = turn_within _ _ _ _ _ r _ (λ i x e. e) l.taken_given.middles_given taken.turn_taken in
         record {
           commitments = taken.commitments;
           turn = taken.turn;
           challenge = taken.challenge;
-          commitments-given = ec;
-          turn-given = et;
-          challenge-given = taken.challenge-set;
-          reply-given = given;
-          check = given-accepted k w.history.given w.history.asked r (l.past r replied-before) reply given _ _ _ ec et taken.challenge-set;
+          commitments_given = ec;
+          turn_given = et;
+          challenge_given = taken.challenge_set_is;
+          reply_given = given;
+          check = given_accepted k w.history.given w.history.asked r (l.past r replied_before) reply given _ _ _ ec et taken.challenge_set_is;
         }
 
-    pub reply-accepted : acceptsReply w.carrier o.system reply ≡ true
-    unfolding taken round-accepted
-    reply-accepted = taken.verdict ∙ round-accepted.check
+    pub reply_accepted : accepts_reply w.carrier o.system reply ≡ true
+    unfolding taken round_accepted
+    reply_accepted = taken.verdict ∙ round_accepted.check
 
-    pub reply-linked : Link o (Ca.replyTaken o (of-carrier o k) w o.system reply)
-    reply-linked =
-        moved o w _ (w.history.carrierRound + 1) _ _ _ l (Ca.reply-history o (of-carrier o k) w o.system reply l.carrier-history none)
-        (asked-same o w.history.asked) l.taken-given (put-accepted _ _ _ l.all-accepted reply-accepted) (omega (arith, replied-before))
+    pub reply_linked : Link o (Ca.reply_taken o (of_carrier o k) w o.system reply)
+    reply_linked =
+        moved o w _ (w.history.carrier_round + 1) _ _ _ l (Ca.reply_history o (of_carrier o k) w o.system reply l.carrier_history none)
+        (asked_same o w.history.asked) l.taken_given (put_accepted _ _ _ l.all_accepted reply_accepted) (omega (arith, replied_before))

@@ -4,7 +4,7 @@ use Rattle.std.specs.Prelude.{ℕ, ◌+◌, Bool, cond, List, [], ◌∷◌, eqb
 use Rattle.std.proofs.Math.Option.{Option, some, none}
 use Rattle.refusal.specs.Refusal.{kept}
 use Rattle.scheme.specs.declared.Scheme.{Scheme}
-use Rattle.scheme.specs.Scheme.{schemeOf}
+use Rattle.scheme.specs.Scheme.{scheme_of}
 use Rattle.commitment.specs.declared.Domain.{Domain}
 use Rattle.card_state.specs.declared.session.Card.{Card}
 use Rattle.card_state.specs.Card as CardCalls
@@ -22,23 +22,23 @@ pub record Terms : Type 0 where
 
 -- the scheme of that byte
 abbrev pub passes : Terms → Scheme
-passes o = schemeOf o.scheme
+passes o = scheme_of o.scheme
 
 -- what stands before ρ in every string that is hashed in the session
-abbrev pub domainOf : Terms → Domain
-domainOf o = record { scheme = passes o }
+abbrev pub domain_of : Terms → Domain
+domain_of o = record { scheme = passes o }
 
 -- "the card's commit, reply to α and reply; the carrier's taking of commitments, setting of α, taking of t1 and e1, setting of the challenge and taking of
 -- a reply"; an output is given by its length
 pub data Call : Type 0 where
   commit : (system lent : List ℕ) (out : ℕ) → Call
-  answerAlpha : (system : List ℕ) (α out : ℕ) → Call
+  answer_alpha : (system : List ℕ) (α out : ℕ) → Call
   reply : (challenge out : ℕ) → Call
-  takeCommitments : (commitments : List ℕ) → Call
-  setAlpha : (α : ℕ) → Call
-  takeMiddle : (middle : List ℕ) → Call
-  setChallenge : (challenge : ℕ) → Call
-  takeReply : (system reply : List ℕ) → Call
+  take_commitments : (commitments : List ℕ) → Call
+  set_alpha : (α : ℕ) → Call
+  take_middle : (middle : List ℕ) → Call
+  set_challenge : (challenge : ℕ) → Call
+  take_reply : (system reply : List ℕ) → Call
 
 -- ---- what has happened, by the round, counted from 0
 
@@ -72,9 +72,9 @@ pub record Judgement : Type 0 where
 
 -- the rounds over at each end, and what was given, set and taken there; nothing of the sessions
 pub record History : Type 0 where
-  pub cardRound : ℕ
+  pub card_round : ℕ
   pub given : Given
-  pub carrierRound : ℕ
+  pub carrier_round : ℕ
   pub asked : Asked
   pub taken : Taken
   pub judged : Log Judgement
@@ -89,13 +89,13 @@ pub record World : Type 0 where
 unfoldable pub opened : Terms → World
 opened o =
     record {
-      card = CardCalls.openedCard o.system o.scheme o.rounds o.secret;
-      carrier = CarrierCalls.openedCarrier o.system o.scheme o.rounds o.key;
+      card = CardCalls.opened_card o.system o.scheme o.rounds o.secret;
+      carrier = CarrierCalls.opened_carrier o.system o.scheme o.rounds o.key;
       history =
           record {
-            cardRound = 0;
+            card_round = 0;
             given = record { commitments = λ r. none; middles = λ r. none; replies = λ r. none };
-            carrierRound = 0;
+            carrier_round = 0;
             asked = record { alphas = λ r. none; challenges = λ r. none };
             taken = record { commitments = λ r. none; middles = λ r. none };
             judged = λ r. none;
@@ -105,32 +105,32 @@ opened o =
 -- ---- one call
 
 unfoldable pub refusal : World → Call → ℕ
-refusal w (commit b lent out) = CardCalls.commitRefusal w.card b lent out
-refusal w (answerAlpha b α out) = CardCalls.alphaRefusal w.card b α out
-refusal w (reply challenge out) = CardCalls.replyRefusal w.card challenge out
-refusal w (takeCommitments commitments) = CarrierCalls.commitmentsRefusal w.carrier commitments
-refusal w (setAlpha α) = CarrierCalls.alphaRefusal w.carrier α
-refusal w (takeMiddle middle) = CarrierCalls.middleRefusal w.carrier middle
-refusal w (setChallenge challenge) = CarrierCalls.challengeRefusal w.carrier challenge
-refusal w (takeReply b r) = CarrierCalls.replyRefusal w.carrier b r
+refusal w (commit b lent out) = CardCalls.commit_refusal w.card b lent out
+refusal w (answer_alpha b α out) = CardCalls.alpha_refusal w.card b α out
+refusal w (reply challenge out) = CardCalls.reply_refusal w.card challenge out
+refusal w (take_commitments commitments) = CarrierCalls.commitments_refusal w.carrier commitments
+refusal w (set_alpha α) = CarrierCalls.alpha_refusal w.carrier α
+refusal w (take_middle middle) = CarrierCalls.middle_refusal w.carrier middle
+refusal w (set_challenge challenge) = CarrierCalls.challenge_refusal w.carrier challenge
+refusal w (take_reply b r) = CarrierCalls.reply_refusal w.carrier b r
 
 -- "Each gets the session that the last call on its end gave back, and nothing else changes a session between."
-abbrev pub cardMoves : World → Card → ℕ → Given → World
-cardMoves w card round given =
+abbrev pub card_moves : World → Card → ℕ → Given → World
+card_moves w card round given =
     let h = w.history in
     record {
       card = card;
       carrier = w.carrier;
-      history = record { cardRound = round; given = given; carrierRound = h.carrierRound; asked = h.asked; taken = h.taken; judged = h.judged };
+      history = record { card_round = round; given = given; carrier_round = h.carrier_round; asked = h.asked; taken = h.taken; judged = h.judged };
     }
 
-abbrev pub carrierMoves : World → Carrier → ℕ → Asked → Taken → Log Judgement → World
-carrierMoves w carrier round asked taken judged =
+abbrev pub carrier_moves : World → Carrier → ℕ → Asked → Taken → Log Judgement → World
+carrier_moves w carrier round asked taken judged =
     let h = w.history in
     record {
       card = w.card;
       carrier = carrier;
-      history = record { cardRound = h.cardRound; given = h.given; carrierRound = round; asked = asked; taken = taken; judged = judged };
+      history = record { card_round = h.card_round; given = h.given; carrier_round = round; asked = asked; taken = taken; judged = judged };
     }
 
 -- what a call that is not refused does: the session that it hands back, and what it gives, sets or takes for the round
@@ -138,39 +138,39 @@ unfoldable pub effect : World → Call → World
 effect w (commit b lent out) =
     let h = w.history in
     let g = h.given in
-    cardMoves w (CardCalls.committedCard w.card b lent) h.cardRound
-    (record { commitments = put g.commitments h.cardRound (CardCalls.sentCommitments w.card b lent); middles = g.middles; replies = g.replies })
-effect w (answerAlpha b α out) =
+    card_moves w (CardCalls.committed_card w.card b lent) h.card_round
+    (record { commitments = put g.commitments h.card_round (CardCalls.sent_commitments w.card b lent); middles = g.middles; replies = g.replies })
+effect w (answer_alpha b α out) =
     let h = w.history in
     let g = h.given in
-    cardMoves w (CardCalls.answeredCard w.card) h.cardRound
-    (record { commitments = g.commitments; middles = put g.middles h.cardRound (CardCalls.sentMiddle w.card b α); replies = g.replies })
+    card_moves w (CardCalls.answered_card w.card) h.card_round
+    (record { commitments = g.commitments; middles = put g.middles h.card_round (CardCalls.sent_middle w.card b α); replies = g.replies })
 effect w (reply challenge out) =
     let h = w.history in
     let g = h.given in
-    cardMoves w (CardCalls.repliedCard w.card) (h.cardRound + 1)
-    (record { commitments = g.commitments; middles = g.middles; replies = put g.replies h.cardRound (CardCalls.sentReply w.card challenge) })
-effect w (takeCommitments commitments) =
+    card_moves w (CardCalls.replied_card w.card) (h.card_round + 1)
+    (record { commitments = g.commitments; middles = g.middles; replies = put g.replies h.card_round (CardCalls.sent_reply w.card challenge) })
+effect w (take_commitments commitments) =
     let h = w.history in
-    carrierMoves w (CarrierCalls.withCommitments w.carrier commitments) h.carrierRound h.asked
-    (record { commitments = put h.taken.commitments h.carrierRound commitments; middles = h.taken.middles }) h.judged
-effect w (setAlpha α) =
+    carrier_moves w (CarrierCalls.with_commitments w.carrier commitments) h.carrier_round h.asked
+    (record { commitments = put h.taken.commitments h.carrier_round commitments; middles = h.taken.middles }) h.judged
+effect w (set_alpha α) =
     let h = w.history in
-    carrierMoves w (CarrierCalls.withAlpha w.carrier α) h.carrierRound
-    (record { alphas = put h.asked.alphas h.carrierRound α; challenges = h.asked.challenges }) h.taken h.judged
-effect w (takeMiddle middle) =
+    carrier_moves w (CarrierCalls.with_alpha w.carrier α) h.carrier_round
+    (record { alphas = put h.asked.alphas h.carrier_round α; challenges = h.asked.challenges }) h.taken h.judged
+effect w (take_middle middle) =
     let h = w.history in
-    carrierMoves w (CarrierCalls.withMiddle w.carrier middle) h.carrierRound h.asked
-    (record { commitments = h.taken.commitments; middles = put h.taken.middles h.carrierRound middle }) h.judged
-effect w (setChallenge challenge) =
+    carrier_moves w (CarrierCalls.with_middle w.carrier middle) h.carrier_round h.asked
+    (record { commitments = h.taken.commitments; middles = put h.taken.middles h.carrier_round middle }) h.judged
+effect w (set_challenge challenge) =
     let h = w.history in
-    carrierMoves w (CarrierCalls.withChallenge w.carrier challenge) h.carrierRound
-    (record { alphas = h.asked.alphas; challenges = put h.asked.challenges h.carrierRound challenge }) h.taken h.judged
-effect w (takeReply b r) =
+    carrier_moves w (CarrierCalls.with_challenge w.carrier challenge) h.carrier_round
+    (record { alphas = h.asked.alphas; challenges = put h.asked.challenges h.carrier_round challenge }) h.taken h.judged
+effect w (take_reply b r) =
     let h = w.history in
-    let answer = CarrierCalls.acceptsReply w.carrier b r in
-    carrierMoves w (CarrierCalls.judgedCarrier w.carrier answer) (h.carrierRound + 1) h.asked h.taken
-    (put h.judged h.carrierRound (record { system = b; reply = r; answer = answer }))
+    let answer = CarrierCalls.accepts_reply w.carrier b r in
+    carrier_moves w (CarrierCalls.judged_carrier w.carrier answer) (h.carrier_round + 1) h.asked h.taken
+    (put h.judged h.carrier_round (record { system = b; reply = r; answer = answer }))
 
 -- a refused call changes nothing
 unfoldable pub step : World → Call → World

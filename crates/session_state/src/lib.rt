@@ -2,7 +2,7 @@
 #![tactic(auto)]
 
 ghost use Rattle.std.specs.Prelude.{◌≡◌};
-ghost use Rattle.session_state.specs.State.{stateRefusal, nextCount};
+ghost use Rattle.session_state.specs.State.{state_refusal, next_count};
 
 use refusal::unless;
 
@@ -16,7 +16,7 @@ pub enum Verdict {
 
 // 11 for a closed session, 10 for a call that is not due; a phase is given by its number, 0 for closed.
 pub fn state_refusal(phase: u8, due: u8) -> u8
-    ensures { result ≡ stateRefusal phase due }
+    ensures { result ≡ state_refusal phase due }
 {
     if phase == 0 {
         11
@@ -30,7 +30,7 @@ const MOST: u8 = 255;
 
 // One round more.
 pub fn next_count(k: u8) -> u8
-    ensures { result ≡ nextCount k }
+    ensures { result ≡ next_count k }
 {
     if k < MOST { k + 1 } else { MOST }
 }

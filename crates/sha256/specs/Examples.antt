@@ -1,20 +1,20 @@
 -- Worked examples of SHA-256, as theorems of the definition that antt computes.
 use Rattle.std.specs.Prelude.{◌≡◌, refl, List, [], ◌∷◌, ℕ}
 use Rattle.slices.specs.Slices.{tabulate}
-use Rattle.sha256_block.specs.Bytes.{byteOf, bytesOf, wordAt}
+use Rattle.sha256_block.specs.Bytes.{byte_of, bytes_of, word_at}
 use Rattle.sha256_block.specs.Words.{◌⊞◌, SHR, ROTR, Ch, Maj, Σ0, Σ1, σ0, σ1}
 use Rattle.sha256_block.specs.Constants.{K, initial}
-use Rattle.sha256_block.specs.Block.{wordsOf, nextWord, extended, schedule, T1, T2, shifted, round, rounds, added, compress}
-use Rattle.sha256.specs.Padding.{zeroBytes, pad, blockCount, block}
-use Rattle.sha256.specs.Sha256.{hashValue, joined, hashWords, sha256}
+use Rattle.sha256_block.specs.Block.{words_of, next_word, extended, schedule, T1, T2, shifted, round, rounds, added, compress}
+use Rattle.sha256.specs.Padding.{zero_bytes, pad, block_count, block}
+use Rattle.sha256.specs.Sha256.{hash_value, joined, hash_words, sha256}
 
 -- FIPS 180-4's message of one block, "abc"
-abbrev pub one-block : List ℕ
-one-block = 0x61 ∷ 0x62 ∷ 0x63 ∷ []
+abbrev pub one_block : List ℕ
+one_block = 0x61 ∷ 0x62 ∷ 0x63 ∷ []
 
 -- FIPS 180-4's message of two blocks, "abcdbcdecdefdefgefghfghighijhijkijkljklmklmnlmnomnopnopq"
-abbrev pub two-blocks : List ℕ
-two-blocks =
+abbrev pub two_blocks : List ℕ
+two_blocks =
     0x61 ∷ 0x62 ∷ 0x63 ∷ 0x64 ∷ 0x62 ∷ 0x63 ∷ 0x64 ∷ 0x65 ∷ 0x63 ∷ 0x64 ∷ 0x65 ∷ 0x66 ∷ 0x64 ∷ 0x65 ∷ 0x66 ∷ 0x67 ∷
     0x65 ∷ 0x66 ∷ 0x67 ∷ 0x68 ∷ 0x66 ∷ 0x67 ∷ 0x68 ∷ 0x69 ∷ 0x67 ∷ 0x68 ∷ 0x69 ∷ 0x6a ∷ 0x68 ∷ 0x69 ∷ 0x6a ∷ 0x6b ∷
     0x69 ∷ 0x6a ∷ 0x6b ∷ 0x6c ∷ 0x6a ∷ 0x6b ∷ 0x6c ∷ 0x6d ∷ 0x6b ∷ 0x6c ∷ 0x6d ∷ 0x6e ∷ 0x6c ∷ 0x6d ∷ 0x6e ∷ 0x6f ∷
@@ -25,12 +25,12 @@ pub examples :
     (sha256 [] ≡
     0xe3 ∷ 0xb0 ∷ 0xc4 ∷ 0x42 ∷ 0x98 ∷ 0xfc ∷ 0x1c ∷ 0x14 ∷ 0x9a ∷ 0xfb ∷ 0xf4 ∷ 0xc8 ∷ 0x99 ∷ 0x6f ∷ 0xb9 ∷ 0x24 ∷
     0x27 ∷ 0xae ∷ 0x41 ∷ 0xe4 ∷ 0x64 ∷ 0x9b ∷ 0x93 ∷ 0x4c ∷ 0xa4 ∷ 0x95 ∷ 0x99 ∷ 0x1b ∷ 0x78 ∷ 0x52 ∷ 0xb8 ∷ 0x55 ∷ [])
-    × (sha256 one-block ≡
+    × (sha256 one_block ≡
     0xba ∷ 0x78 ∷ 0x16 ∷ 0xbf ∷ 0x8f ∷ 0x01 ∷ 0xcf ∷ 0xea ∷ 0x41 ∷ 0x41 ∷ 0x40 ∷ 0xde ∷ 0x5d ∷ 0xae ∷ 0x22 ∷ 0x23 ∷
     0xb0 ∷ 0x03 ∷ 0x61 ∷ 0xa3 ∷ 0x96 ∷ 0x17 ∷ 0x7a ∷ 0x9c ∷ 0xb4 ∷ 0x10 ∷ 0xff ∷ 0x61 ∷ 0xf2 ∷ 0x00 ∷ 0x15 ∷ 0xad ∷ [])
-    × (sha256 two-blocks ≡
+    × (sha256 two_blocks ≡
     0x24 ∷ 0x8d ∷ 0x6a ∷ 0x61 ∷ 0xd2 ∷ 0x06 ∷ 0x38 ∷ 0xb8 ∷ 0xe5 ∷ 0xc0 ∷ 0x26 ∷ 0x93 ∷ 0x0c ∷ 0x3e ∷ 0x60 ∷ 0x39 ∷
     0xa3 ∷ 0x3c ∷ 0xe4 ∷ 0x59 ∷ 0x64 ∷ 0xff ∷ 0x21 ∷ 0x67 ∷ 0xf6 ∷ 0xec ∷ 0xed ∷ 0xd4 ∷ 0x19 ∷ 0xdb ∷ 0x06 ∷ 0xc1 ∷ [])
-unfolding tabulate byteOf bytesOf wordAt ◌⊞◌ SHR ROTR Ch Maj Σ0 Σ1 σ0 σ1 K initial
-    zeroBytes pad blockCount block wordsOf nextWord extended schedule T1 T2 shifted round rounds added compress hashValue joined hashWords sha256
+unfolding tabulate byte_of bytes_of word_at ◌⊞◌ SHR ROTR Ch Maj Σ0 Σ1 σ0 σ1 K initial
+    zero_bytes pad block_count block words_of next_word extended schedule T1 T2 shifted round rounds added compress hash_value joined hash_words sha256
 examples = (refl, refl, refl)

@@ -6,12 +6,12 @@
 mod padding;
 
 ghost use Rattle.std.specs.Prelude.{◌≡◌, ◌/◌, ◌<◌, ◌≤◌, length};
-ghost use Rattle.sha256_block.specs.Bytes.{byteOf};
-ghost use Rattle.sha256.specs.Padding.{pad, blockCount};
-ghost use Rattle.sha256.specs.Sha256.{hashValue, hashWords, sha256};
+ghost use Rattle.sha256_block.specs.Bytes.{byte_of};
+ghost use Rattle.sha256.specs.Padding.{pad, block_count};
+ghost use Rattle.sha256.specs.Sha256.{hash_value, hash_words, sha256};
 ghost use Rattle.sha256_block.specs.State.{variables};
 ghost use Rattle.refusal.specs.Refusal.{kept};
-ghost use Rattle.sha256.specs.Digest.{digestRefusal};
+ghost use Rattle.sha256.specs.Digest.{digest_refusal};
 
 use crate::padding::{block_count, padded_block};
 use sha256_block::{State, hash_block, initial_state};
@@ -19,7 +19,7 @@ use slices::put;
 
 // The hash value after the blocks that the message has whole.
 fn whole_blocks(message: &[u8]) -> State
-    ensures { variables result ≡ hashValue (pad message.now) (length message.now / 64) }
+    ensures { variables result ≡ hash_value (pad message.now) (length message.now / 64) }
 {
     let count = message.len() / 64;
     let mut s = initial_state();
@@ -36,7 +36,7 @@ fn whole_blocks(message: &[u8]) -> State
 // The hash value after every block of the padded message.
 fn last_value(message: &[u8]) -> State
     requires { length message.now ≤ 65535 }
-    ensures { variables result ≡ hashValue (pad message.now) (blockCount (pad message.now)) }
+    ensures { variables result ≡ hash_value (pad message.now) (block_count (pad message.now)) }
 {
     let count = block_count(message.len());
     let mut s = whole_blocks(message);
@@ -50,7 +50,7 @@ fn last_value(message: &[u8]) -> State
 }
 
 fn words(s: State) -> [u32; 8]
-    ensures { result ≡ hashWords (variables s) }
+    ensures { result ≡ hash_words (variables s) }
 {
     [s.a, s.b, s.c, s.d, s.e, s.f, s.g, s.h]
 }
@@ -58,7 +58,7 @@ fn words(s: State) -> [u32; 8]
 // Byte j of a word, the high byte first.
 fn byte_of(w: u32, j: usize) -> u8
     requires { j < 4 }
-    ensures { result ≡ byteOf 4 w j }
+    ensures { result ≡ byte_of 4 w j }
 {
     ((w >> (8 * (3 - j))) % 256) as u8
 }
@@ -84,7 +84,7 @@ const DIGEST_LENGTH: usize = 32;
 // Writes the digest of a message to out and returns 0; or returns 2 and leaves out as it was, where the message is longer than
 // 65,535 bytes or out is not 32 bytes long.
 pub fn digest(message: &[u8], out: &mut [u8]) -> u8
-    ensures { (result ≡ digestRefusal (length message.now) (length out.old))
+    ensures { (result ≡ digest_refusal (length message.now) (length out.old))
         × (out.new ≡ kept result out.old (sha256 message.now)) }
 {
     if message.len() > 65535 {

@@ -1,7 +1,7 @@
 // The blocks of a padded message that are not whole blocks of the message itself: FIPS 180-4, 5.1.1.
 ghost use Rattle.std.specs.Prelude.{◌≡◌, ◌+◌, ◌*◌, ◌/◌, ◌<◌, ◌≤◌, length, get_or};
-ghost use Rattle.sha256_block.specs.Bytes.{byteOf};
-ghost use Rattle.sha256.specs.Padding.{pad, blockCount, block};
+ghost use Rattle.sha256_block.specs.Bytes.{byte_of};
+ghost use Rattle.sha256.specs.Padding.{pad, block_count, block};
 
 // How many blocks a message of n bytes has once it is padded.
 pub fn block_count(n: usize) -> usize
@@ -14,7 +14,7 @@ pub fn block_count(n: usize) -> usize
 // Byte j of the length in bits of a message of n bytes, as 64 bits with the high byte first.
 fn length_byte(n: usize, j: usize) -> u8
     requires { (n ≤ 65535) × (j < 8) }
-    ensures { result ≡ byteOf 8 (8 * n) j }
+    ensures { result ≡ byte_of 8 (8 * n) j }
 {
     (((8 * n) >> (8 * (7 - j))) % 256) as u8
 }
@@ -40,7 +40,7 @@ fn padded_byte(message: &[u8], at: usize) -> u8
 
 // Block i of the padded message.
 pub fn padded_block(message: &[u8], i: usize) -> [u8; 64]
-    requires { (length message.now ≤ 65535) × (i < blockCount (pad message.now)) }
+    requires { (length message.now ≤ 65535) × (i < block_count (pad message.now)) }
     ensures { result ≡ block (pad message.now) i }
 {
     let at = 64 * i;

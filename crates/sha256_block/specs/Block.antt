@@ -1,21 +1,21 @@
 -- The hash of one block as FIPS 180-4 (August 2015) defines it. Each definition names the section that it renders.
 use Rattle.std.specs.Prelude.{ℕ, zero, suc, ◌-◌, List, [], ◌∷◌, ◌++◌, length, slice_index, slice_index_or}
 use Rattle.slices.specs.Slices.{tabulate}
-use Rattle.sha256_block.specs.Bytes.{wordAt}
+use Rattle.sha256_block.specs.Bytes.{word_at}
 use Rattle.sha256_block.specs.Words.{◌⊞◌, Ch, Maj, Σ0, Σ1, σ0, σ1, Variables}
 use Rattle.sha256_block.specs.Constants.{K}
 
 -- 5.2.1: a block as the sixteen words M_0 to M_15
-unfoldable pub wordsOf : List ℕ → List ℕ
-wordsOf m = tabulate 16 (wordAt m)
+unfoldable pub words_of : List ℕ → List ℕ
+words_of m = tabulate 16 (word_at m)
 
 -- 6.2.2, step 1: W_t of the words before it, for t of 16 and more
-unfoldable pub nextWord : List ℕ → ℕ → ℕ
-nextWord w t = σ1 (slice_index w (t - 2)) ⊞ slice_index_or w (t - 7) 0 ⊞ σ0 (slice_index w (t - 15)) ⊞ slice_index_or w (t - 16) 0
+unfoldable pub next_word : List ℕ → ℕ → ℕ
+next_word w t = σ1 (slice_index w (t - 2)) ⊞ slice_index_or w (t - 7) 0 ⊞ σ0 (slice_index w (t - 15)) ⊞ slice_index_or w (t - 16) 0
 
 -- 6.2.2, step 1: words W_0 to W_(t-1), followed by W_t
 unfoldable pub extended : List ℕ → List ℕ
-extended w = w ++ (nextWord w (length w) ∷ [])
+extended w = w ++ (next_word w (length w) ∷ [])
 
 -- 6.2.2, step 1: the first 16 + n words of the message schedule of a block whose words are m
 unfoldable pub schedule : ℕ → List ℕ → List ℕ
@@ -49,4 +49,4 @@ added v u = record { a = v.a ⊞ u.a; b = v.b ⊞ u.b; c = v.c ⊞ u.c; d = v.d 
 
 -- 6.2.2, steps 1 to 4: the hash value H(i) of H(i-1), v, and a block's bytes
 unfoldable pub compress : Variables → List ℕ → Variables
-compress v m = added (rounds 64 (schedule 48 (wordsOf m)) v) v
+compress v m = added (rounds 64 (schedule 48 (words_of m)) v) v

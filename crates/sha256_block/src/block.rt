@@ -1,7 +1,7 @@
 // The hash of one block: FIPS 180-4, 6.2.2.
 ghost use Rattle.std.specs.Prelude.{◌≡◌, ◌+◌, ◌*◌, ◌<◌, ◌≤◌, length, take};
-ghost use Rattle.sha256_block.specs.Bytes.{wordAt};
-ghost use Rattle.sha256_block.specs.Block.{wordsOf, nextWord, T1, T2, round, added, compress};
+ghost use Rattle.sha256_block.specs.Bytes.{word_at};
+ghost use Rattle.sha256_block.specs.Block.{words_of, next_word, T1, T2, round, added, compress};
 ghost use Rattle.sha256_block.specs.State.{variables};
 
 use crate::constants::constants;
@@ -18,7 +18,7 @@ fn wide(x: u8) -> u32
 // The word that bytes 4i to 4i + 3 of a block are, the high byte first.
 fn word_at(block: &[u8], i: usize) -> u32
     requires { 4 * i + 3 < length block.now }
-    ensures { result ≡ wordAt block.now i }
+    ensures { result ≡ word_at block.now i }
 {
     let at = 4 * i;
     let b0 = wide(block[at]);
@@ -31,7 +31,7 @@ fn word_at(block: &[u8], i: usize) -> u32
 // A message schedule whose first sixteen words are the block's, and the others not set yet.
 fn load(block: &[u8]) -> [u32; 64]
     requires { length block.now ≡ 64 }
-    ensures { (length result ≡ 64) × (take 16 result ≡ wordsOf block.now) }
+    ensures { (length result ≡ 64) × (take 16 result ≡ words_of block.now) }
 {
     let mut w = [0u32; 64];
     let mut i = 0;
@@ -45,7 +45,7 @@ fn load(block: &[u8]) -> [u32; 64]
 // Word t of the message schedule, of the words before it.
 fn next_word(w: &[u32; 64], t: usize) -> u32
     requires { (16 ≤ t) × (t < 64) }
-    ensures { result ≡ nextWord w.now t }
+    ensures { result ≡ next_word w.now t }
 {
     add(
         add(

@@ -6,44 +6,44 @@ use mathlib.Core.List.{List}
 use lib.Dec.{leb, eqb}
 use lib.ListN.{length, take}
 use borrow.Author.Tests.{leb-true, eqb-false, not-true}
-use Rattle.refusal.proofs.Refusals.{first-zero, later-zero, test-holds, equal-holds}
-use Rattle.field.specs.Vector.{allBelow}
-use Rattle.system.specs.System.{qOf, nOf, mOf, systemRefusal}
+use Rattle.refusal.proofs.Refusals.{first_zero, later_zero, test_holds, equal_holds}
+use Rattle.field.specs.Vector.{all_below}
+use Rattle.system.specs.System.{q_of, n_of, m_of, system_refusal}
 use Rattle.scheme.specs.declared.Scheme.TheVariants.{ThreePass}
-use Rattle.scheme.specs.Scheme.{drawnLength, commitmentsLength, replyLength}
-use Rattle.simulator.specs.Simulator.{simulateRefusal}
+use Rattle.scheme.specs.Scheme.{drawn_length, commitments_length, reply_length}
+use Rattle.simulator.specs.Simulator.{simulate_refusal}
 
 pub record Taken (b v : List ℕ) (unanswered challenge : ℕ) (lent : List ℕ) (commitments reply : ℕ) : Type 0 where
-  pub good : systemRefusal b ≡ 0
-  pub key-length : length v ≡ mOf b
-  pub commitments-room : commitments ≡ commitmentsLength ThreePass
-  pub reply-room : reply ≡ replyLength ThreePass (nOf b) (mOf b)
-  pub key-elements : allBelow (qOf b) v ≡ true
-  pub lent-elements : allBelow (qOf b) (take (nOf b + drawnLength ThreePass (nOf b) (mOf b)) lent) ≡ true
-  pub unanswered-value : unanswered ≤ 2
-  pub challenge-value : challenge ≤ 2
+  pub good : system_refusal b ≡ 0
+  pub key_length : length v ≡ m_of b
+  pub commitments_room : commitments ≡ commitments_length ThreePass
+  pub reply_room : reply ≡ reply_length ThreePass (n_of b) (m_of b)
+  pub key_elements : all_below (q_of b) v ≡ true
+  pub lent_elements : all_below (q_of b) (take (n_of b + drawn_length ThreePass (n_of b) (m_of b)) lent) ≡ true
+  pub unanswered_value : unanswered ≤ 2
+  pub challenge_value : challenge ≤ 2
   pub other : challenge ≡ unanswered → ⊥
 
-pub taken : (b v : List ℕ) (unanswered challenge : ℕ) (lent : List ℕ) (commitments reply : ℕ) → simulateRefusal b v unanswered challenge lent commitments reply ≡ 0 →
+pub taken : (b v : List ℕ) (unanswered challenge : ℕ) (lent : List ℕ) (commitments reply : ℕ) → simulate_refusal b v unanswered challenge lent commitments reply ≡ 0 →
     Taken b v unanswered challenge lent commitments reply
-unfolding simulateRefusal
+unfolding simulate_refusal
 taken b v unanswered challenge lent commitments reply none =
-    let n = nOf b in
-    let m = mOf b in
-    let after-system = later-zero _ _ none in
-    let lengths = first-zero _ _ after-system in
-    let after-lengths = later-zero _ _ after-system in
-    let elements = first-zero _ _ after-lengths in
-    let challenges = later-zero _ _ after-lengths in
-    let after-unanswered = later-zero _ _ challenges in
+    let n = n_of b in
+    let m = m_of b in
+    let after_system = later_zero _ _ none in
+    let lengths = first_zero _ _ after_system in
+    let after_lengths = later_zero _ _ after_system in
+    let elements = first_zero _ _ after_lengths in
+    let challenges = later_zero _ _ after_lengths in
+    let after_unanswered = later_zero _ _ challenges in
     record {
-      good = first-zero _ _ none;
-      key-length = equal-holds (length v) m 2 tt (first-zero _ _ (first-zero _ _ lengths));
-      commitments-room = equal-holds commitments (commitmentsLength ThreePass) 2 tt (first-zero _ _ (later-zero _ _ lengths));
-      reply-room = equal-holds reply (replyLength ThreePass n m) 2 tt (later-zero _ _ (later-zero _ _ lengths));
-      key-elements = test-holds (allBelow (qOf b) v) 3 tt (first-zero _ _ elements);
-      lent-elements = test-holds (allBelow (qOf b) (take (n + drawnLength ThreePass n m) lent)) 3 tt (later-zero _ _ elements);
-      unanswered-value = leb-true unanswered 2 (test-holds (leb unanswered 2) 4 tt (first-zero _ _ challenges));
-      challenge-value = leb-true challenge 2 (test-holds (leb challenge 2) 4 tt (first-zero _ _ after-unanswered));
-      other = λ e. eqb-false unanswered challenge (not-true (eqb unanswered challenge) (test-holds (not (eqb unanswered challenge)) 4 tt (later-zero _ _ after-unanswered))) (sym e);
+      good = first_zero _ _ none;
+      key_length = equal_holds (length v) m 2 tt (first_zero _ _ (first_zero _ _ lengths));
+      commitments_room = equal_holds commitments (commitments_length ThreePass) 2 tt (first_zero _ _ (later_zero _ _ lengths));
+      reply_room = equal_holds reply (reply_length ThreePass n m) 2 tt (later_zero _ _ (later_zero _ _ lengths));
+      key_elements = test_holds (all_below (q_of b) v) 3 tt (first_zero _ _ elements);
+      lent_elements = test_holds (all_below (q_of b) (take (n + drawn_length ThreePass n m) lent)) 3 tt (later_zero _ _ elements);
+      unanswered_value = leb-true unanswered 2 (test_holds (leb unanswered 2) 4 tt (first_zero _ _ challenges));
+      challenge_value = leb-true challenge 2 (test_holds (leb challenge 2) 4 tt (first_zero _ _ after_unanswered));
+      other = λ e. eqb-false unanswered challenge (not-true (eqb unanswered challenge) (test_holds (not (eqb unanswered challenge)) 4 tt (later_zero _ _ after_unanswered))) (sym e);
     }

@@ -17,22 +17,22 @@ pub record LentPieces (q n m : ℕ) (lent : List ℕ) : Type 0 where
   pub ρ0 : List ℕ
   pub ρ1 : List ℕ
   pub ρ2 : List ℕ
-  pub laid-out : lent ≡ s' ++ r0 ++ t0 ++ e0 ++ ρ0 ++ ρ1 ++ ρ2
-  pub s'-is : VectorBytes q n s'
-  pub r0-is : VectorBytes q n r0
-  pub t0-is : VectorBytes q n t0
-  pub e0-is : VectorBytes q m e0
-  pub ρ0-length : length ρ0 ≡ 32
-  pub ρ1-length : length ρ1 ≡ 32
-  pub ρ2-length : length ρ2 ≡ 32
+  pub laid_out : lent ≡ s' ++ r0 ++ t0 ++ e0 ++ ρ0 ++ ρ1 ++ ρ2
+  pub s'_is : VectorBytes q n s'
+  pub r0_is : VectorBytes q n r0
+  pub t0_is : VectorBytes q n t0
+  pub e0_is : VectorBytes q m e0
+  pub ρ0_length : length ρ0 ≡ 32
+  pub ρ1_length : length ρ1 ≡ 32
+  pub ρ2_length : length ρ2 ≡ 32
 
 -- "from the system, v, challenges Ch* and Ch and lent" pieces; the outputs "with an exact length": three digests, and "A reply has 2n + m + 64 bytes."
 pub record Simulable (b v : List ℕ) (unanswered challenge : ℕ) (lent : List ℕ) (commitments reply : ℕ) : Type 0 where
   pub system : WellFormedSystem b
   pub key : VectorBytes system.q system.m v
   pub pieces : LentPieces system.q system.n system.m lent
-  pub commitments-length : commitments ≡ 3 * 32
-  pub reply-length : reply ≡ 2 * system.n + system.m + 64
-  pub unanswered-value : unanswered ≤ 2
-  pub challenge-value : challenge ≤ 2
+  pub commitments_length_is : commitments ≡ 3 * 32
+  pub reply_length_is : reply ≡ 2 * system.n + system.m + 64
+  pub unanswered_value : unanswered ≤ 2
+  pub challenge_value : challenge ≤ 2
   pub other : challenge ≡ unanswered → ⊥

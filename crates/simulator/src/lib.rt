@@ -7,9 +7,9 @@
 
 ghost use Rattle.std.specs.Prelude.{◌≡◌, length};
 ghost use Rattle.refusal.specs.Refusal.{kept};
-ghost use Rattle.system.specs.System.{systemRefusal};
-ghost use Rattle.round.specs.Pieces.{vectorsOf};
-ghost use Rattle.simulator.specs.Simulator.{simulateRefusal, lentBehind, vectorsFrom, simulatorDomain, simulatedCommitments, simulatedReply};
+ghost use Rattle.system.specs.System.{system_refusal};
+ghost use Rattle.round.specs.Pieces.{vectors_of};
+ghost use Rattle.simulator.specs.Simulator.{simulate_refusal, lent_behind, vectors_from, simulator_domain, simulated_commitments, simulated_reply};
 
 use commitment::Domain;
 use exchange::{Lent, read_lent, write_reply_three, write_three_commitments};
@@ -30,7 +30,7 @@ fn simulate_refusal<'a>(
     commitments_len: usize,
     reply_len: usize,
 ) -> u8
-    ensures { result ≡ simulateRefusal system.now v.now unanswered challenge lent.now commitments_len reply_len }
+    ensures { result ≡ simulate_refusal system.now v.now unanswered challenge lent.now commitments_len reply_len }
 {
     let q = byte_at(system, 0);
     let n = byte_at(system, 1);
@@ -64,14 +64,14 @@ fn simulate_refusal<'a>(
 
 // What is lent behind s', as to a card.
 fn lent_behind(lent: &[u8], n: u8, m: u8) -> Lent
-    ensures { result ≡ lentBehind n m lent.now }
+    ensures { result ≡ lent_behind n m lent.now }
 {
     read_lent(part(lent, n as usize, lent.len()), n, m)
 }
 
 // The domain of what it commits to.
 fn simulator_domain() -> Domain
-    ensures { result ≡ simulatorDomain }
+    ensures { result ≡ simulator_domain }
 {
     Domain {
         scheme: Scheme::ThreePass,
@@ -86,8 +86,8 @@ fn vectors_from<'a>(
     lent: &'a [u8],
     l: Lent,
 ) -> Vectors
-    requires { systemRefusal system.now ≡ 0 }
-    ensures { vectorsOf result ≡ vectorsFrom system.now unanswered v.now lent.now l }
+    requires { system_refusal system.now ≡ 0 }
+    ensures { vectors_of result ≡ vectors_from system.now unanswered v.now lent.now l }
 {
     let s = slot(lent, 0, byte_at(system, 1));
     let r0 = l.r0;
@@ -107,12 +107,12 @@ pub fn simulate<'a>(
     commitments: &mut [u8],
     reply: &mut [u8],
 ) -> u8
-    ensures { (result ≡ simulateRefusal system.now v.now unanswered challenge lent.now
+    ensures { (result ≡ simulate_refusal system.now v.now unanswered challenge lent.now
         (length commitments.old) (length reply.old))
         × (commitments.new ≡ kept result commitments.old
-        (simulatedCommitments system.now v.now unanswered lent.now))
+        (simulated_commitments system.now v.now unanswered lent.now))
         × (reply.new ≡ kept result reply.old
-        (simulatedReply system.now v.now unanswered challenge lent.now)) }
+        (simulated_reply system.now v.now unanswered challenge lent.now)) }
 {
     let refused = simulate_refusal(
         system,

@@ -14,42 +14,42 @@ unfolding tabulate
 length-tabulate zero f = refl
 length-tabulate (suc n) f = ap suc (length-tabulate n (λ i. f (suc i)))
 
-pub tabulate-at : (n : ℕ) (f : ℕ → ℕ) (i : ℕ) → i < n → tabulate n f ! i ≡ f i
+pub tabulate_at : (n : ℕ) (f : ℕ → ℕ) (i : ℕ) → i < n → tabulate n f ! i ≡ f i
 unfolding tabulate
-tabulate-at zero f i h = absurd (not-suc-le-zero h)
-tabulate-at (suc n) f zero h = refl
-tabulate-at (suc n) f (suc i) h = tabulate-at n (λ k. f (suc k)) i (le_of_suc-le-suc h)
+tabulate_at zero f i h = absurd (not-suc-le-zero h)
+tabulate_at (suc n) f zero h = refl
+tabulate_at (suc n) f (suc i) h = tabulate_at n (λ k. f (suc k)) i (le_of_suc-le-suc h)
 
-pub tabulate-beyond : (n : ℕ) (f : ℕ → ℕ) (i : ℕ) → n ≤ i → tabulate n f ! i ≡ 0
-tabulate-beyond n f i h = get_or-eq_default (tabulate n f) 0 (rw (length-tabulate n f) h)
+pub tabulate_beyond : (n : ℕ) (f : ℕ → ℕ) (i : ℕ) → n ≤ i → tabulate n f ! i ≡ 0
+tabulate_beyond n f i h = get_or-eq_default (tabulate n f) 0 (rw (length-tabulate n f) h)
 
 -- a list is what it is tabulated from
-pub tabulate-of : (l : List ℕ) (n : ℕ) (f : ℕ → ℕ) → length l ≡ n → ((i : ℕ) → i < n → l ! i ≡ f i) → l ≡ tabulate n f
-tabulate-of l n f len each =
-    ext_get_or 0 l (tabulate n f) (len ∙ sym (length-tabulate n f)) (λ i h. let below : i < n = rw len at h in each i below ∙ sym (tabulate-at n f i below))
+pub tabulate_of : (l : List ℕ) (n : ℕ) (f : ℕ → ℕ) → length l ≡ n → ((i : ℕ) → i < n → l ! i ≡ f i) → l ≡ tabulate n f
+tabulate_of l n f len each =
+    ext_get_or 0 l (tabulate n f) (len ∙ sym (length-tabulate n f)) (λ i h. let below : i < n = rw len at h in each i below ∙ sym (tabulate_at n f i below))
 
-pub tabulate-cong : (n : ℕ) (f g : ℕ → ℕ) → ((i : ℕ) → i < n → f i ≡ g i) → tabulate n f ≡ tabulate n g
-tabulate-cong n f g same = tabulate-of (tabulate n f) n g (length-tabulate n f) (λ i h. tabulate-at n f i h ∙ same i h)
+pub tabulate_cong : (n : ℕ) (f g : ℕ → ℕ) → ((i : ℕ) → i < n → f i ≡ g i) → tabulate n f ≡ tabulate n g
+tabulate_cong n f g same = tabulate_of (tabulate n f) n g (length-tabulate n f) (λ i h. tabulate_at n f i h ∙ same i h)
 
 -- ---- a loop that fills a list from the front
 
-pub tabulate-snoc : (n : ℕ) (f : ℕ → ℕ) → tabulate (suc n) f ≡ tabulate n f ++ f n ∷ []
+pub tabulate_snoc : (n : ℕ) (f : ℕ → ℕ) → tabulate (suc n) f ≡ tabulate n f ++ f n ∷ []
 unfolding tabulate
-tabulate-snoc zero f = refl
-tabulate-snoc (suc n) f = ap (λ (t : List ℕ). f 0 ∷ t) (tabulate-snoc n (λ i. f (suc i)))
+tabulate_snoc zero f = refl
+tabulate_snoc (suc n) f = ap (λ (t : List ℕ). f 0 ∷ t) (tabulate_snoc n (λ i. f (suc i)))
 
-pub fill-start : (d : List ℕ) (f : ℕ → ℕ) → d ≡ tabulate 0 f ++ drop 0 d
+pub fill_start : (d : List ℕ) (f : ℕ → ℕ) → d ≡ tabulate 0 f ++ drop 0 d
 unfolding tabulate
-fill-start d f = refl
+fill_start d f = refl
 
-pub fill-step : (d l : List ℕ) (f : ℕ → ℕ) (i v : ℕ) → l ≡ tabulate i f ++ drop i d → i < length d → v ≡ f i → set l i v ≡ tabulate (i + 1) f ++ drop (i + 1) d
-fill-step d l f i v e h ev =
+pub fill_step : (d l : List ℕ) (f : ℕ → ℕ) (i v : ℕ) → l ≡ tabulate i f ++ drop i d → i < length d → v ≡ f i → set l i v ≡ tabulate (i + 1) f ++ drop (i + 1) d
+fill_step d l f i v e h ev =
     ap₂ (λ (t : List ℕ) (u : ℕ). set t i u) (e ∙ ap (λ (t : List ℕ). tabulate i f ++ t) (drop-cons d i 0 h)) ev ∙
     set_at (tabulate i f) (d ! i) (drop (suc i) d) (f i) i (length-tabulate i f) ∙
-    rw (add-one, tabulate-snoc, append_assoc)
+    rw (add-one, tabulate_snoc, append_assoc)
 
-pub fill-end : (d l : List ℕ) (f : ℕ → ℕ) (i : ℕ) → l ≡ tabulate i f ++ drop i d → i ≡ length d → l ≡ tabulate (length d) f
-fill-end d l f i e h = e ∙ rw (h, drop-length, append-nil)
+pub fill_end : (d l : List ℕ) (f : ℕ → ℕ) (i : ℕ) → l ≡ tabulate i f ++ drop i d → i ≡ length d → l ≡ tabulate (length d) f
+fill_end d l f i e h = e ∙ rw (h, drop-length, append-nil)
 
 -- ---- a loop that fills the first n of an array's k places
 
@@ -61,10 +61,10 @@ Filled f n k l i = (i ≤ n) × (length l ≡ k) × (take i l ≡ tabulate i f)
 pub fill_more : (f : ℕ → ℕ) (n k : ℕ) (l : List ℕ) (i v : ℕ) → n ≤ k → i < n → Filled f n k l i → v ≡ f i → Filled f n k (set l i v) (i + 1)
 fill_more f n k l i v room h (le, len, e) ev =
     let below : i < length l = omega arith in
-    (omega arith, length-set l i v ∙ len, rw (add-one, take-suc-set, tabulate-snoc) (simp (e, ev)))
+    (omega arith, length-set l i v ∙ len, rw (add-one, take-suc-set, tabulate_snoc) (simp (e, ev)))
 
 -- an array that is filled to its end is the list
 pub filled : (f : ℕ → ℕ) (n : ℕ) (l : List ℕ) (i : ℕ) → n ≤ i → Filled f n n l i → l ≡ tabulate n f
 filled f n l i past (le, len, e) =
-    let at-end : i ≡ n = omega arith in
-    sym (take_all i l (omega arith)) ∙ e ∙ ap (λ (k : ℕ). tabulate k f) at-end
+    let at_end : i ≡ n = omega arith in
+    sym (take_all i l (omega arith)) ∙ e ∙ ap (λ (k : ℕ). tabulate k f) at_end

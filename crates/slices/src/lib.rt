@@ -3,7 +3,7 @@
 #![tactic(auto)]
 
 ghost use Rattle.std.specs.Prelude.{◌≡◌, ◌+◌, ◌≤◌, ◌<◌, ◌++◌, length, take, drop};
-ghost use Rattle.slices.specs.Slices.{◌!◌, tabulate, same, placed, word as word_of, number as numberOf};
+ghost use Rattle.slices.specs.Slices.{◌!◌, tabulate, same, placed, word as word_of, number as number_of};
 
 // The byte at place i, and 0 beyond the end.
 pub fn byte_at(s: &[u8], i: usize) -> u8
@@ -99,7 +99,7 @@ pub fn word(k: usize) -> [u8; 4]
 
 // The number that the first four bytes are, 0 for those beyond the end.
 pub fn number(s: &[u8]) -> u32
-    ensures { result ≡ numberOf s.now }
+    ensures { result ≡ number_of s.now }
 {
     byte_at(s, 0) as u32
         + 256 * (byte_at(s, 1) as u32)

@@ -2,12 +2,12 @@
 use Rattle.std.specs.Prelude.{ℕ, ◌≡◌, List, [], ◌∷◌, length}
 use Rattle.slices.specs.Slices.{◌!◌}
 use Rattle.field.specs.Vector.{vector}
-use Rattle.system.specs.System.{nOf, mOf, F, G}
-use Rattle.protocol.specs.Protocols.{Vectors, unmasked, unmaskedBy, cardThree, cardFive, simulated}
-use Rattle.protocol.specs.Rounds.{mapOf}
+use Rattle.system.specs.System.{n_of, m_of, F, G}
+use Rattle.protocol.specs.Protocols.{Vectors, unmasked, unmasked_by, card_three, card_five, simulated}
+use Rattle.protocol.specs.Rounds.{map_of}
 
 infix 40 ◌of◌gives◌
--- the assertion that all share: of a vector of n elements all n are printed, it has the printed ones and zeros beyond. `gives-each` of proofs/Examples.antt
+-- the assertion that all share: of a vector of n elements all n are printed, it has the printed ones and zeros beyond. `gives_each` of proofs/Examples.antt
 -- says place by place what it tells
 unfoldable pub ◌of◌gives◌ : List ℕ → ℕ → List ℕ → Type 0
 computed of n gives printed = (length printed ≡ n) × (computed ≡ vector n (λ i. printed ! i))
@@ -37,41 +37,41 @@ abbrev pub v : List ℕ
 v = 5 ∷ 6 ∷ []
 
 -- the card's vectors in each scheme, and the simulator's with Ch* = 0 and s' = (1,0)
-abbrev pub threePasses : Vectors (List ℕ) (List ℕ)
-threePasses = cardThree (mapOf key) s r0 t0 e0
+abbrev pub three_passes : Vectors (List ℕ) (List ℕ)
+three_passes = card_three (map_of key) s r0 t0 e0
 
-abbrev pub fivePasses : Vectors (List ℕ) (List ℕ)
-fivePasses = cardFive (mapOf key) 3 s r0 t0 e0
+abbrev pub five_passes : Vectors (List ℕ) (List ℕ)
+five_passes = card_five (map_of key) 3 s r0 t0 e0
 
 abbrev pub simulation : Vectors (List ℕ) (List ℕ)
-simulation = simulated (mapOf key) 0 v (1 ∷ 0 ∷ []) r0 t0 e0
+simulation = simulated (map_of key) 0 v (1 ∷ 0 ∷ []) r0 t0 e0
 
 -- "q = 2, f = (1,0)" and "q = 251, f = (1,0)"
-abbrev pub keyOfTwo : List ℕ
-keyOfTwo = 2 ∷ 1 ∷ 1 ∷ 1 ∷ 0 ∷ []
+abbrev pub key_of_two : List ℕ
+key_of_two = 2 ∷ 1 ∷ 1 ∷ 1 ∷ 0 ∷ []
 
-abbrev pub keyOfLarge : List ℕ
-keyOfLarge = 251 ∷ 1 ∷ 1 ∷ 1 ∷ 0 ∷ []
+abbrev pub key_of_large : List ℕ
+key_of_large = 251 ∷ 1 ∷ 1 ∷ 1 ∷ 0 ∷ []
 
 -- the number of unknowns and of polynomials, from the keys' own bytes
 abbrev pub n : ℕ
-n = nOf key
+n = n_of key
 
 abbrev pub m : ℕ
-m = mOf key
+m = m_of key
 
 pub record SmallKey : Type 0 where
   pub K1 : F key s of m gives 5 ∷ 6 ∷ []
   pub K2 : F key r0 of m gives 1 ∷ 0 ∷ []
   pub K3 : F key r1 of m gives 6 ∷ 4 ∷ []
   pub K4 : G key r0 r1 of m gives 5 ∷ 2 ∷ []
-  pub K5 : threePasses.mask of m gives 2 ∷ 6 ∷ []
-  pub K6 : (threePasses.t1 of n gives 1 ∷ 6 ∷ []) × (threePasses.e1 of m gives 6 ∷ 2 ∷ [])
-  pub K7 : unmasked (mapOf key) v r1 threePasses.t1 threePasses.e1 of m gives 2 ∷ 6 ∷ []
+  pub K5 : three_passes.mask of m gives 2 ∷ 6 ∷ []
+  pub K6 : (three_passes.t1 of n gives 1 ∷ 6 ∷ []) × (three_passes.e1 of m gives 6 ∷ 2 ∷ [])
+  pub K7 : unmasked (map_of key) v r1 three_passes.t1 three_passes.e1 of m gives 2 ∷ 6 ∷ []
   pub K8 :
-      (fivePasses.t1 of n gives 4 ∷ 1 ∷ []) × (fivePasses.e1 of m gives 1 ∷ 2 ∷ []) ×
-      (unmaskedBy (mapOf key) 3 v r1 fivePasses.t1 fivePasses.e1 of m gives 2 ∷ 6 ∷ [])
+      (five_passes.t1 of n gives 4 ∷ 1 ∷ []) × (five_passes.e1 of m gives 1 ∷ 2 ∷ []) ×
+      (unmasked_by (map_of key) 3 v r1 five_passes.t1 five_passes.e1 of m gives 2 ∷ 6 ∷ [])
   pub K9 : (simulation.r1 of n gives 3 ∷ 6 ∷ []) × (simulation.e1 of m gives 2 ∷ 1 ∷ []) × (simulation.mask of m gives 4 ∷ 1 ∷ [])
   pub K10 : F key (0 ∷ 0 ∷ []) of m gives 0 ∷ 0 ∷ []
-  pub K11 : G keyOfTwo (1 ∷ []) (1 ∷ []) of mOf keyOfTwo gives 0 ∷ []
-  pub K12 : F keyOfLarge (250 ∷ []) of mOf keyOfLarge gives 1 ∷ []
+  pub K11 : G key_of_two (1 ∷ []) (1 ∷ []) of m_of key_of_two gives 0 ∷ []
+  pub K12 : F key_of_large (250 ∷ []) of m_of key_of_large gives 1 ∷ []

@@ -10,135 +10,135 @@ use lib.Dec.{T, leb, eqb, leb→le, le→leb}
 use lib.ListN.{length, drop, length-drop}
 use borrow.Author.Tests.{leb-true, eqb-true, le-leb, eq-eqb}
 use Rattle.slices.specs.Slices.{◌!◌}
-use Rattle.slices.proofs.Booleans.{and-left, and-right}
-use Rattle.refusal.specs.Refusal.{unless, ◌orElse◌}
-use Rattle.refusal.proofs.Refusals.{first-zero, later-zero, test-holds, unless-most, orElse-most}
-use Rattle.field.specs.Ops.{isField}
-use Rattle.field.specs.Vector.{allBelow}
-use Rattle.field.proofs.Elements.{all-below-at, at-all-below}
-use Rattle.system.specs.System.{qOf, nOf, mOf, width, systemLength, isSize, areSizes, hasSizes, systemRefusal, systemAgainst, WellFormedSystem, triangle}
+use Rattle.slices.proofs.Booleans.{and_left, and_right}
+use Rattle.refusal.specs.Refusal.{unless, ◌or_else◌}
+use Rattle.refusal.proofs.Refusals.{first_zero, later_zero, test_holds, unless_most, or_else_most}
+use Rattle.field.specs.Ops.{is_field}
+use Rattle.field.specs.Vector.{all_below}
+use Rattle.field.proofs.Elements.{all_below_at, at_all_below}
+use Rattle.system.specs.System.{q_of, n_of, m_of, width, system_length, is_size, are_sizes, has_sizes, system_refusal, system_against, WellFormedSystem, triangle}
 
 -- ---- widths
 
-pub product-bound : (n k : ℕ) → n ≤ k → n * (n + 1) ≤ k * (k + 1)
-product-bound n k h = mul-le-mul h (omega arith)
+pub product_bound : (n k : ℕ) → n ≤ k → n * (n + 1) ≤ k * (k + 1)
+product_bound n k h = mul-le-mul h (omega arith)
 
-pub width-bound : (n k : ℕ) → n ≤ k → width n ≤ width k
+pub width_bound : (n k : ℕ) → n ≤ k → width n ≤ width k
 unfolding width
-width-bound n k h = omega (arith, product-bound n k h)
+width_bound n k h = omega (arith, product_bound n k h)
 
 -- ---- the triangle of quadratic coefficients
 
-twice-triangle : (n i : ℕ) → i ≤ n → 2 * triangle n i + i * i ≡ 2 * (n * i) + i
+twice_triangle : (n i : ℕ) → i ≤ n → 2 * triangle n i + i * i ≡ 2 * (n * i) + i
 unfolding triangle
-twice-triangle n zero h = omega arith
-twice-triangle n (suc i) h = omega (arith, twice-triangle n i (omega arith))
+twice_triangle n zero h = omega arith
+twice_triangle n (suc i) h = omega (arith, twice_triangle n i (omega arith))
 
-pub triangle-whole : (n : ℕ) → triangle n n ≡ n * (n + 1) / 2
-triangle-whole n = omega (arith, twice-triangle n n (le_refl n))
+pub triangle_whole : (n : ℕ) → triangle n n ≡ n * (n + 1) / 2
+triangle_whole n = omega (arith, twice_triangle n n (le_refl n))
 
-pub width-is : (n : ℕ) → width n ≡ triangle n n + n
+pub width_is : (n : ℕ) → width n ≡ triangle n n + n
 unfolding width
-width-is n = ap (λ (k : ℕ). k + n) (sym (triangle-whole n))
+width_is n = ap (λ (k : ℕ). k + n) (sym (triangle_whole n))
 
-pub triangle-bound : (n : ℕ) → n ≤ 96 → triangle n n ≤ 4656
-triangle-bound n h = omega (arith, triangle-whole n, product-bound n 96 h)
+pub triangle_bound : (n : ℕ) → n ≤ 96 → triangle n n ≤ 4656
+triangle_bound n h = omega (arith, triangle_whole n, product_bound n 96 h)
 
 -- the row of i ends where the next starts, and that is at most where a later one does
-pub triangle-next : (n i j : ℕ) → i < j → triangle n i + (n - i) ≤ triangle n j
+pub triangle_next : (n i j : ℕ) → i < j → triangle n i + (n - i) ≤ triangle n j
 unfolding triangle
-triangle-next n i zero h = absurd (not-suc-le-zero h)
-triangle-next n i (suc j) h =
-    ⊎_elim (λ (e : i ≡ j). rw e (le_refl _)) (λ (l : i < j). omega (arith, triangle-next n i j l)) (eq-or-lt_of_le (le_of_suc-le-suc h))
+triangle_next n i zero h = absurd (not-suc-le-zero h)
+triangle_next n i (suc j) h =
+    ⊎_elim (λ (e : i ≡ j). rw e (le_refl _)) (λ (l : i < j). omega (arith, triangle_next n i j l)) (eq-or-lt_of_le (le_of_suc-le-suc h))
 
 -- ---- what decides a refusal
 
-pub refusal-by : (b : List ℕ) (front sizes whole elements : Bool) →
-    leb 3 (length b) ≡ front → areSizes (qOf b) (nOf b) (mOf b) ≡ sizes → eqb (length b) (systemLength (nOf b) (mOf b)) ≡ whole →
-    allBelow (qOf b) (drop 3 b) ≡ elements →
-    (unless front 2 orElse unless sizes 1 orElse unless whole 2 orElse unless elements 3) ≡ systemRefusal b
-unfolding systemRefusal
-refusal-by b front sizes whole elements e f g h = rw (e, f, g, h)
+pub refusal_by : (b : List ℕ) (front sizes whole elements : Bool) →
+    leb 3 (length b) ≡ front → are_sizes (q_of b) (n_of b) (m_of b) ≡ sizes → eqb (length b) (system_length (n_of b) (m_of b)) ≡ whole →
+    all_below (q_of b) (drop 3 b) ≡ elements →
+    (unless front 2 or_else unless sizes 1 or_else unless whole 2 or_else unless elements 3) ≡ system_refusal b
+unfolding system_refusal
+refusal_by b front sizes whole elements e f g h = rw (e, f, g, h)
 
 -- ---- a system that is not refused
 
 -- q, n and m are among their values
 pub record Sizes (q n m : ℕ) : Type 0 where
-  pub is-field : isField q ≡ true
-  pub n-low : 1 ≤ n
-  pub n-high : n ≤ 96
-  pub m-low : 1 ≤ m
-  pub m-high : m ≤ 96
+  pub q_is_field : is_field q ≡ true
+  pub n_low : 1 ≤ n
+  pub n_high : n ≤ 96
+  pub m_low : 1 ≤ m
+  pub m_high : m ≤ 96
 
-pub sizes : (q n m : ℕ) → areSizes q n m ≡ true → Sizes q n m
-unfolding areSizes isSize
+pub sizes : (q n m : ℕ) → are_sizes q n m ≡ true → Sizes q n m
+unfolding are_sizes is_size
 sizes q n m h =
-    let n-and-m = and-right (isField q) (isSize n && isSize m) h in
-    let n-size = and-left (isSize n) (isSize m) n-and-m in
-    let m-size = and-right (isSize n) (isSize m) n-and-m in
+    let n_and_m = and_right (is_field q) (is_size n && is_size m) h in
+    let n_size = and_left (is_size n) (is_size m) n_and_m in
+    let m_size = and_right (is_size n) (is_size m) n_and_m in
     record {
-      is-field = and-left (isField q) (isSize n && isSize m) h;
-      n-low = leb-true 1 n (and-left (leb 1 n) (leb n 96) n-size);
-      n-high = leb-true n 96 (and-right (leb 1 n) (leb n 96) n-size);
-      m-low = leb-true 1 m (and-left (leb 1 m) (leb m 96) m-size);
-      m-high = leb-true m 96 (and-right (leb 1 m) (leb m 96) m-size);
+      q_is_field = and_left (is_field q) (is_size n && is_size m) h;
+      n_low = leb-true 1 n (and_left (leb 1 n) (leb n 96) n_size);
+      n_high = leb-true n 96 (and_right (leb 1 n) (leb n 96) n_size);
+      m_low = leb-true 1 m (and_left (leb 1 m) (leb m 96) m_size);
+      m_high = leb-true m 96 (and_right (leb 1 m) (leb m 96) m_size);
     }
 
 pub record Accepted (b : List ℕ) : Type 0 where
   pub front : 3 ≤ length b
-  pub is-field : isField (qOf b) ≡ true
-  pub n-low : 1 ≤ nOf b
-  pub n-high : nOf b ≤ 96
-  pub m-low : 1 ≤ mOf b
-  pub m-high : mOf b ≤ 96
-  pub whole : length b ≡ 3 + mOf b * width (nOf b)
-  pub elements : allBelow (qOf b) (drop 3 b) ≡ true
+  pub q_is_field : is_field (q_of b) ≡ true
+  pub n_low : 1 ≤ n_of b
+  pub n_high : n_of b ≤ 96
+  pub m_low : 1 ≤ m_of b
+  pub m_high : m_of b ≤ 96
+  pub whole : length b ≡ 3 + m_of b * width (n_of b)
+  pub elements : all_below (q_of b) (drop 3 b) ≡ true
 
-pub accepted : (b : List ℕ) → systemRefusal b ≡ 0 → Accepted b
-unfolding systemRefusal systemLength
+pub accepted : (b : List ℕ) → system_refusal b ≡ 0 → Accepted b
+unfolding system_refusal system_length
 accepted b h =
-    let k = sizes (qOf b) (nOf b) (mOf b) (test-holds (areSizes (qOf b) (nOf b) (mOf b)) 1 tt (first-zero _ _ (later-zero _ _ h))) in
+    let k = sizes (q_of b) (n_of b) (m_of b) (test_holds (are_sizes (q_of b) (n_of b) (m_of b)) 1 tt (first_zero _ _ (later_zero _ _ h))) in
     record {
-      front = leb-true 3 (length b) (test-holds (leb 3 (length b)) 2 tt (first-zero _ _ h));
-      is-field = k.is-field;
-      n-low = k.n-low;
-      n-high = k.n-high;
-      m-low = k.m-low;
-      m-high = k.m-high;
-      whole = eqb-true (length b) (systemLength (nOf b) (mOf b)) (test-holds _ 2 tt (first-zero _ _ (later-zero _ _ (later-zero _ _ h))));
-      elements = test-holds (allBelow (qOf b) (drop 3 b)) 3 tt (later-zero _ _ (later-zero _ _ (later-zero _ _ h)));
+      front = leb-true 3 (length b) (test_holds (leb 3 (length b)) 2 tt (first_zero _ _ h));
+      q_is_field = k.q_is_field;
+      n_low = k.n_low;
+      n_high = k.n_high;
+      m_low = k.m_low;
+      m_high = k.m_high;
+      whole = eqb-true (length b) (system_length (n_of b) (m_of b)) (test_holds _ 2 tt (first_zero _ _ (later_zero _ _ (later_zero _ _ h))));
+      elements = test_holds (all_below (q_of b) (drop 3 b)) 3 tt (later_zero _ _ (later_zero _ _ (later_zero _ _ h)));
     }
 
 -- the system has this q, n and m
-pub has-sizes : (b : List ℕ) (q n m : ℕ) → hasSizes b q n m ≡ true → (qOf b ≡ q) × (nOf b ≡ n) × (mOf b ≡ m)
-unfolding hasSizes
-has-sizes b q n m e =
-    let rest = and-right (eqb (qOf b) q) (eqb (nOf b) n && eqb (mOf b) m) e in (
-      eqb-true _ _ (and-left (eqb (qOf b) q) (eqb (nOf b) n && eqb (mOf b) m) e),
-      eqb-true _ _ (and-left (eqb (nOf b) n) (eqb (mOf b) m) rest),
-      eqb-true _ _ (and-right (eqb (nOf b) n) (eqb (mOf b) m) rest),
+pub has_sizes_lem : (b : List ℕ) (q n m : ℕ) → has_sizes b q n m ≡ true → (q_of b ≡ q) × (n_of b ≡ n) × (m_of b ≡ m)
+unfolding has_sizes
+has_sizes_lem b q n m e =
+    let rest = and_right (eqb (q_of b) q) (eqb (n_of b) n && eqb (m_of b) m) e in (
+      eqb-true _ _ (and_left (eqb (q_of b) q) (eqb (n_of b) n && eqb (m_of b) m) e),
+      eqb-true _ _ (and_left (eqb (n_of b) n) (eqb (m_of b) m) rest),
+      eqb-true _ _ (and_right (eqb (n_of b) n) (eqb (m_of b) m) rest),
     )
 
-pub sizes-has : (b : List ℕ) (q n m : ℕ) → qOf b ≡ q → nOf b ≡ n → mOf b ≡ m → hasSizes b q n m ≡ true
-unfolding hasSizes
-sizes-has b q n m eq en em = rw (eq-eqb _ _ eq, eq-eqb _ _ en, eq-eqb _ _ em)
+pub sizes_has : (b : List ℕ) (q n m : ℕ) → q_of b ≡ q → n_of b ≡ n → m_of b ≡ m → has_sizes b q n m ≡ true
+unfolding has_sizes
+sizes_has b q n m eq en em = rw (eq-eqb _ _ eq, eq-eqb _ _ en, eq-eqb _ _ em)
 
 -- ---- not refused is well-formed
 
-pub well-formed : (b : List ℕ) → systemRefusal b ≡ 0 → WellFormedSystem b
-well-formed b h =
+pub well_formed : (b : List ℕ) → system_refusal b ≡ 0 → WellFormedSystem b
+well_formed b h =
     let k = accepted b h in
     record {
-      q = qOf b;
-      n = nOf b;
-      m = mOf b;
+      q = q_of b;
+      n = n_of b;
+      m = m_of b;
       coefficients = drop 3 b;
-      laid-out = three b k.front;
-      is-field = k.is-field;
-      n-size = (k.n-low, k.n-high);
-      m-size = (k.m-low, k.m-high);
+      laid_out = three b k.front;
+      q_is_field = k.q_is_field;
+      n_size = (k.n_low, k.n_high);
+      m_size = (k.m_low, k.m_high);
       count = length-drop 3 b ∙ omega arith;
-      elements = all-below-at (qOf b) (drop 3 b) k.elements;
+      elements = all_below_at (q_of b) (drop 3 b) k.elements;
     }
   where
     three : (l : List ℕ) → 3 ≤ length l → l ≡ l ! 0 ∷ l ! 1 ∷ l ! 2 ∷ drop 3 l
@@ -147,44 +147,44 @@ well-formed b h =
     three (x ∷ y ∷ []) h = absurd (omega arith)
     three (x ∷ y ∷ z ∷ l) h = refl
 
-size-true : (k : ℕ) → (1 ≤ k) × (k ≤ 96) → isSize k ≡ true
-unfolding isSize
-size-true k h = rw (le-leb 1 k h.0, le-leb k 96 h.1)
+size_true : (k : ℕ) → (1 ≤ k) × (k ≤ 96) → is_size k ≡ true
+unfolding is_size
+size_true k h = rw (le-leb 1 k h.0, le-leb k 96 h.1)
 
-pub sizes-true : (q n m : ℕ) → isField q ≡ true → (1 ≤ n) × (n ≤ 96) → (1 ≤ m) × (m ≤ 96) → areSizes q n m ≡ true
-unfolding areSizes
-sizes-true q n m e hn hm = rw (e, size-true n hn, size-true m hm)
+pub sizes_true : (q n m : ℕ) → is_field q ≡ true → (1 ≤ n) × (n ≤ 96) → (1 ≤ m) × (m ≤ 96) → are_sizes q n m ≡ true
+unfolding are_sizes
+sizes_true q n m e hn hm = rw (e, size_true n hn, size_true m hm)
 
-pub not-refused : (b : List ℕ) → WellFormedSystem b → systemRefusal b ≡ 0
-unfolding unless ◌orElse◌ systemLength
-not-refused b w =
-    rw w.laid-out
+pub not_refused : (b : List ℕ) → WellFormedSystem b → system_refusal b ≡ 0
+unfolding unless ◌or_else◌ system_length
+not_refused b w =
+    rw w.laid_out
     (sym
-    (refusal-by (w.q ∷ w.n ∷ w.m ∷ w.coefficients) true true true true
+    (refusal_by (w.q ∷ w.n ∷ w.m ∷ w.coefficients) true true true true
     (le-leb 3 (suc (suc (suc (length w.coefficients)))) (omega arith))
-    (sizes-true w.q w.n w.m w.is-field w.n-size w.m-size)
+    (sizes_true w.q w.n w.m w.q_is_field w.n_size w.m_size)
     (eq-eqb (suc (suc (suc (length w.coefficients)))) (3 + w.m * width w.n) (omega (arith, w.count)))
-    (at-all-below w.q w.coefficients w.elements)))
+    (at_all_below w.q w.coefficients w.elements)))
 
 -- its first three bytes are q, n and m
-pub q-is : (b : List ℕ) (w : WellFormedSystem b) → qOf b ≡ w.q
-q-is b w = ap (λ (l : List ℕ). l ! 0) w.laid-out
+pub q_is : (b : List ℕ) (w : WellFormedSystem b) → q_of b ≡ w.q
+q_is b w = ap (λ (l : List ℕ). l ! 0) w.laid_out
 
-pub n-is : (b : List ℕ) (w : WellFormedSystem b) → nOf b ≡ w.n
-n-is b w = ap (λ (l : List ℕ). l ! 1) w.laid-out
+pub n_is : (b : List ℕ) (w : WellFormedSystem b) → n_of b ≡ w.n
+n_is b w = ap (λ (l : List ℕ). l ! 1) w.laid_out
 
-pub m-is : (b : List ℕ) (w : WellFormedSystem b) → mOf b ≡ w.m
-m-is b w = ap (λ (l : List ℕ). l ! 2) w.laid-out
+pub m_is : (b : List ℕ) (w : WellFormedSystem b) → m_of b ≡ w.m
+m_is b w = ap (λ (l : List ℕ). l ! 2) w.laid_out
 
 -- no refusal of a system has a number above 3
-pub system-most : (b : List ℕ) (most : ℕ) → T (leb 3 most) → systemRefusal b ≤ most
-unfolding systemRefusal
-system-most b most h =
+pub system_most : (b : List ℕ) (most : ℕ) → T (leb 3 most) → system_refusal b ≤ most
+unfolding system_refusal
+system_most b most h =
     let three : 3 ≤ most = leb→le 3 most h in
     let one : T (leb 1 most) = le→leb 1 most (omega arith) in
     let two : T (leb 2 most) = le→leb 2 most (omega arith) in
-    orElse-most _ _ most (unless-most _ 2 most two) (orElse-most _ _ most (unless-most _ 1 most one) (orElse-most _ _ most (unless-most _ 2 most two) (unless-most _ 3 most h)))
+    or_else_most _ _ most (unless_most _ 2 most two) (or_else_most _ _ most (unless_most _ 1 most one) (or_else_most _ _ most (unless_most _ 2 most two) (unless_most _ 3 most h)))
 
-pub lent-most : (b : List ℕ) (q n m : ℕ) → systemAgainst b q n m ≤ 9
-unfolding systemAgainst
-lent-most b q n m = orElse-most _ _ 9 (system-most b 9 tt) (unless-most _ 7 9 tt)
+pub lent_most : (b : List ℕ) (q n m : ℕ) → system_against b q n m ≤ 9
+unfolding system_against
+lent_most b q n m = or_else_most _ _ 9 (system_most b 9 tt) (unless_most _ 7 9 tt)

@@ -14,8 +14,8 @@ polynomial o n a b x = o.add (pairs o n (λ i j. o.mul (a i j) (o.mul (x i) (x j
 -- ---- source document 000's form, from which ours is folded
 
 -- 000, section 2: "f_l(x) = Σ_{i,j} a_{l,i,j} x_i x_j + Σ_i b_{l,i} x_i", over all i and j
-unfoldable pub fullPolynomial : Ops → ℕ → (ℕ → ℕ → ℕ) → (ℕ → ℕ) → (ℕ → ℕ) → ℕ
-fullPolynomial o n a b x =
+unfoldable pub full_polynomial : Ops → ℕ → (ℕ → ℕ → ℕ) → (ℕ → ℕ) → (ℕ → ℕ) → ℕ
+full_polynomial o n a b x =
     o.add (sum o n (λ i. sum o n (λ j. o.mul (a i j) (o.mul (x i) (x j))))) (sum o n (λ i. o.mul (b i) (x i)))
 
 -- "000 sums over all i, j; we fold a(l,i,j) + a(l,j,i) into i < j": the coefficient of i ≤ j

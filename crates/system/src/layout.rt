@@ -1,7 +1,7 @@
 // The layout of a system's bytes and what is refused of them.
 ghost use Rattle.std.specs.Prelude.{◌≡◌, ◌+◌, ◌≤◌, length, take, drop};
-ghost use Rattle.field.specs.Vector.{allBelow};
-ghost use Rattle.system.specs.System.{qOf, width as width_of, systemLength, isSize, areSizes, hasSizes, systemRefusal, systemAgainst};
+ghost use Rattle.field.specs.Vector.{all_below};
+ghost use Rattle.system.specs.System.{q_of, width as width_of, system_length, is_size, are_sizes, has_sizes, system_refusal, system_against};
 
 use field::{all_below, is_field};
 use refusal::{first, unless};
@@ -16,21 +16,21 @@ pub fn width(n: u8) -> usize
 
 // The bytes of a system of m polynomials in n unknowns.
 pub fn system_length(n: u8, m: u8) -> usize
-    ensures { result ≡ systemLength n m }
+    ensures { result ≡ system_length n m }
 {
     3 + m as usize * width(n)
 }
 
 // Whether k is a number of unknowns or of polynomials.
 fn is_size(k: u8) -> bool
-    ensures { result ≡ isSize k }
+    ensures { result ≡ is_size k }
 {
     if 1 <= k { k <= 96 } else { false }
 }
 
 // Whether q, n and m are among their values.
 pub fn are_sizes(q: u8, n: u8, m: u8) -> bool
-    ensures { result ≡ areSizes q n m }
+    ensures { result ≡ are_sizes q n m }
 {
     if is_field(q) {
         if is_size(n) { is_size(m) } else { false }
@@ -42,14 +42,14 @@ pub fn are_sizes(q: u8, n: u8, m: u8) -> bool
 // Whether the `count` bytes after the first three are elements.
 fn coefficients_below(system: &[u8], count: usize) -> bool
     requires { 3 + count ≤ length system.now }
-    ensures { result ≡ allBelow (qOf system.now) (take count (drop 3 system.now)) }
+    ensures { result ≡ all_below (q_of system.now) (take count (drop 3 system.now)) }
 {
     all_below(system[0], &system[3..3 + count])
 }
 
 // Refuses a system's bytes: 0 where they are well-formed.
 pub fn check(system: &[u8]) -> u8
-    ensures { result ≡ systemRefusal system.now }
+    ensures { result ≡ system_refusal system.now }
 {
     if system.len() < 3 {
         return 2;
@@ -68,7 +68,7 @@ pub fn check(system: &[u8]) -> u8
 
 // Whether the system has this q, n and m.
 pub fn has_sizes(system: &[u8], q: u8, n: u8, m: u8) -> bool
-    ensures { result ≡ hasSizes system.now q n m }
+    ensures { result ≡ has_sizes system.now q n m }
 {
     if byte_at(system, 0) == q {
         if byte_at(system, 1) == n {
@@ -83,7 +83,7 @@ pub fn has_sizes(system: &[u8], q: u8, n: u8, m: u8) -> bool
 
 // Refuses a system that is lent to a session of this q, n and m.
 pub fn check_against(system: &[u8], q: u8, n: u8, m: u8) -> u8
-    ensures { result ≡ systemAgainst system.now q n m }
+    ensures { result ≡ system_against system.now q n m }
 {
     first(check(system), unless(has_sizes(system, q, n, m), 7))
 }

@@ -9,17 +9,17 @@ use native.Mathlib.Omega.{arith}
 use lib.Dec.{leb}
 use lib.ListN.{length, take, drop}
 use borrow.Author.Tests.{lt-ltb, le-ltb, le-leb}
-use Rattle.slices.proofs.Booleans.{and-both}
+use Rattle.slices.proofs.Booleans.{and_both}
 use Rattle.slices.specs.Slices.{◌!◌}
-use Rattle.text.specs.Text.{lastDigit, decimal}
-use Rattle.text.specs.Reading.{numberBehind, numberOf}
+use Rattle.text.specs.Text.{last_digit, decimal}
+use Rattle.text.specs.Reading.{number_behind, number_of}
 
 -- by the number of digits
-pub by-digits : (P : List ℕ → Type 0) (k : ℕ) → (k < 10 → P (lastDigit k ∷ [])) → (10 ≤ k → k < 100 → P (lastDigit (k / 10) ∷ lastDigit k ∷ [])) →
-    (100 ≤ k → k < 1000 → P (lastDigit (k / 100) ∷ lastDigit (k / 10) ∷ lastDigit k ∷ [])) →
-    (1000 ≤ k → P (lastDigit (k / 1000) ∷ lastDigit (k / 100) ∷ lastDigit (k / 10) ∷ lastDigit k ∷ [])) → P (decimal k)
+pub by_digits : (P : List ℕ → Type 0) (k : ℕ) → (k < 10 → P (last_digit k ∷ [])) → (10 ≤ k → k < 100 → P (last_digit (k / 10) ∷ last_digit k ∷ [])) →
+    (100 ≤ k → k < 1000 → P (last_digit (k / 100) ∷ last_digit (k / 10) ∷ last_digit k ∷ [])) →
+    (1000 ≤ k → P (last_digit (k / 1000) ∷ last_digit (k / 100) ∷ last_digit (k / 10) ∷ last_digit k ∷ [])) → P (decimal k)
 unfolding decimal
-by-digits P k one two three four =
+by_digits P k one two three four =
     elim (dec_lt k 10) [
       | yes h ↦ simp (lt-ltb k 10 h) (one h)
       | no more ↦
@@ -34,46 +34,46 @@ by-digits P k one two three four =
     ]
 
 -- the digits are read
-number-is : (j k : ℕ) → j ≡ k → numberBehind j [] ≡ some k
-unfolding numberBehind
-number-is j k e = ap some e
+number_is : (j k : ℕ) → j ≡ k → number_behind j [] ≡ some k
+unfolding number_behind
+number_is j k e = ap some e
 
 -- a digit more
-behind-digit : (j k : ℕ) (l : List ℕ) → numberBehind j (lastDigit k ∷ l) ≡ numberBehind (10 * j + k % 10) l
-unfolding numberBehind lastDigit
-behind-digit j k l =
-    ap (λ (t : Bool). cond t (numberBehind (10 * j + (48 + k % 10 - 48)) l) none)
-    (and-both (leb 48 (48 + k % 10)) (leb (48 + k % 10) 57) (le-leb 48 (48 + k % 10) (omega arith)) (le-leb (48 + k % 10) 57 (omega arith))) ∙
-    ap (λ (d : ℕ). numberBehind (10 * j + d) l) (omega arith)
+behind_digit : (j k : ℕ) (l : List ℕ) → number_behind j (last_digit k ∷ l) ≡ number_behind (10 * j + k % 10) l
+unfolding number_behind last_digit
+behind_digit j k l =
+    ap (λ (t : Bool). cond t (number_behind (10 * j + (48 + k % 10 - 48)) l) none)
+    (and_both (leb 48 (48 + k % 10)) (leb (48 + k % 10) 57) (le-leb 48 (48 + k % 10) (omega arith)) (le-leb (48 + k % 10) 57 (omega arith))) ∙
+    ap (λ (d : ℕ). number_behind (10 * j + d) l) (omega arith)
 
-pub read-decimal : (k : ℕ) → k < 10000 → numberOf (decimal k) ≡ some k
-unfolding numberOf
-read-decimal k h =
+pub read_decimal : (k : ℕ) → k < 10000 → number_of (decimal k) ≡ some k
+unfolding number_of
+read_decimal k h =
     let thousands : k / 1000 % 10 ≡ k / 1000 = omega arith in
-    by-digits (λ l. numberOf l ≡ some k) k (λ one. behind-digit 0 k [] ∙ number-is _ k (omega arith))
-    (λ more two. behind-digit 0 (k / 10) _ ∙ behind-digit _ k [] ∙ number-is _ k (omega arith))
-    (λ more three. behind-digit 0 (k / 100) _ ∙ behind-digit _ (k / 10) _ ∙ behind-digit _ k [] ∙ number-is _ k (omega arith))
-    (λ four. behind-digit 0 (k / 1000) _ ∙ behind-digit _ (k / 100) _ ∙ behind-digit _ (k / 10) _ ∙ behind-digit _ k [] ∙ number-is _ k (omega arith))
+    by_digits (λ l. number_of l ≡ some k) k (λ one. behind_digit 0 k [] ∙ number_is _ k (omega arith))
+    (λ more two. behind_digit 0 (k / 10) _ ∙ behind_digit _ k [] ∙ number_is _ k (omega arith))
+    (λ more three. behind_digit 0 (k / 100) _ ∙ behind_digit _ (k / 10) _ ∙ behind_digit _ k [] ∙ number_is _ k (omega arith))
+    (λ four. behind_digit 0 (k / 1000) _ ∙ behind_digit _ (k / 100) _ ∙ behind_digit _ (k / 10) _ ∙ behind_digit _ k [] ∙ number_is _ k (omega arith))
 
-pub decimal-first : (k : ℕ) → 0 < k → k < 10000 → 48 < decimal k ! 0
-unfolding lastDigit
-decimal-first k positive h =
-    by-digits (λ l. 48 < l ! 0) k (λ one. omega arith) (λ more two. omega arith) (λ more three. omega arith) (λ four. omega arith)
+pub decimal_first : (k : ℕ) → 0 < k → k < 10000 → 48 < decimal k ! 0
+unfolding last_digit
+decimal_first k positive h =
+    by_digits (λ l. 48 < l ! 0) k (λ one. omega arith) (λ more two. omega arith) (λ more three. omega arith) (λ four. omega arith)
 
-pub decimal-digit : (k : ℕ) → decimal k ! 0 ≤ 57
-unfolding lastDigit
-decimal-digit k = by-digits (λ l. l ! 0 ≤ 57) k (λ one. omega arith) (λ more two. omega arith) (λ more three. omega arith) (λ four. omega arith)
+pub decimal_digit : (k : ℕ) → decimal k ! 0 ≤ 57
+unfolding last_digit
+decimal_digit k = by_digits (λ l. l ! 0 ≤ 57) k (λ one. omega arith) (λ more two. omega arith) (λ more three. omega arith) (λ four. omega arith)
 
 -- at most three digits below 1000, and four in all
-pub decimal-short : (k : ℕ) → k < 1000 → length (decimal k) ≤ 3
-decimal-short k h = by-digits (λ l. length l ≤ 3) k (λ one. omega arith) (λ more two. omega arith) (λ more three. omega arith) (λ four. absurd (omega arith))
+pub decimal_short : (k : ℕ) → k < 1000 → length (decimal k) ≤ 3
+decimal_short k h = by_digits (λ l. length l ≤ 3) k (λ one. omega arith) (λ more two. omega arith) (λ more three. omega arith) (λ four. absurd (omega arith))
 
-pub decimal-long : (k : ℕ) → length (decimal k) ≤ 4
-decimal-long k = by-digits (λ l. length l ≤ 4) k (λ one. omega arith) (λ more two. omega arith) (λ more three. omega arith) (λ four. omega arith)
+pub decimal_long : (k : ℕ) → length (decimal k) ≤ 4
+decimal_long k = by_digits (λ l. length l ≤ 4) k (λ one. omega arith) (λ more two. omega arith) (λ more three. omega arith) (λ four. omega arith)
 
 -- the last of four digits
-pub decimal-last : (k : ℕ) →
-    take (length (decimal k)) (drop (4 - length (decimal k)) (lastDigit (k / 1000) ∷ lastDigit (k / 100) ∷ lastDigit (k / 10) ∷ lastDigit k ∷ [])) ≡ decimal k
-decimal-last k =
-    by-digits (λ l. take (length l) (drop (4 - length l) (lastDigit (k / 1000) ∷ lastDigit (k / 100) ∷ lastDigit (k / 10) ∷ lastDigit k ∷ [])) ≡ l) k
+pub decimal_last : (k : ℕ) →
+    take (length (decimal k)) (drop (4 - length (decimal k)) (last_digit (k / 1000) ∷ last_digit (k / 100) ∷ last_digit (k / 10) ∷ last_digit k ∷ [])) ≡ decimal k
+decimal_last k =
+    by_digits (λ l. take (length l) (drop (4 - length l) (last_digit (k / 1000) ∷ last_digit (k / 100) ∷ last_digit (k / 10) ∷ last_digit k ∷ [])) ≡ l) k
     (λ one. refl) (λ more two. refl) (λ more three. refl) (λ four. refl)

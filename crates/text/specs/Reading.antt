@@ -22,9 +22,9 @@ abbrev pub words : List ℕ → List (List ℕ)
 words line = pieces 32 line
 
 -- whether a word is one of these
-unfoldable pub isOneOf : List ℕ → List (List ℕ) → Bool
-isOneOf w [] = false
-isOneOf w (v ∷ vs) = same w v || isOneOf w vs
+unfoldable pub is_one_of : List ℕ → List (List ℕ) → Bool
+is_one_of w [] = false
+is_one_of w (v ∷ vs) = same w v || is_one_of w vs
 
 -- how many of the lines pass a test
 unfoldable pub count : (List ℕ → Bool) → List (List ℕ) → ℕ
@@ -32,11 +32,11 @@ count test [] = 0
 count test (l ∷ ls) = cond (test l) 1 0 + count test ls
 
 -- the number that decimal digits stand for, behind the digits of k; none where a byte is no digit
-unfoldable pub numberBehind : ℕ → List ℕ → Option ℕ
-numberBehind k [] = some k
-numberBehind k (d ∷ l) = cond (leb 48 d && leb d 57) (numberBehind (10 * k + (d - 48)) l) none
+unfoldable pub number_behind : ℕ → List ℕ → Option ℕ
+number_behind k [] = some k
+number_behind k (d ∷ l) = cond (leb 48 d && leb d 57) (number_behind (10 * k + (d - 48)) l) none
 
 -- the number that a word stands for
-unfoldable pub numberOf : List ℕ → Option ℕ
-numberOf [] = none
-numberOf (d ∷ l) = numberBehind 0 (d ∷ l)
+unfoldable pub number_of : List ℕ → Option ℕ
+number_of [] = none
+number_of (d ∷ l) = number_behind 0 (d ∷ l)

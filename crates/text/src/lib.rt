@@ -6,13 +6,13 @@
 
 ghost use Rattle.std.specs.Prelude.{◌≡◌, ◌++◌, ◌+◌, ◌≤◌, length};
 ghost use Rattle.slices.specs.Slices.{placed};
-ghost use Rattle.text.specs.Text.{lastDigit, decimal, numbered};
+ghost use Rattle.text.specs.Text.{last_digit, decimal, numbered};
 
 use slices::{part, put};
 
 // The ASCII code of a number's last digit.
 fn last_digit(k: u32) -> u8
-    ensures { result ≡ lastDigit k }
+    ensures { result ≡ last_digit k }
 {
     b'0' + (k % 10) as u8
 }

@@ -6,9 +6,9 @@
 #![tactic(auto)]
 
 ghost use Rattle.std.specs.Prelude.{◌≡◌};
-ghost use Rattle.system.specs.System.{systemRefusal};
-ghost use Rattle.transcript.specs.Transcript.{fitRefusal, judgeRefusal, domainIn, keyVector, roundCommitments};
-ghost use Rattle.transcript.specs.Transcript.{roundExchange, roundTurn, roundChallenge, roundReply, acceptedRound};
+ghost use Rattle.system.specs.System.{system_refusal};
+ghost use Rattle.transcript.specs.Transcript.{fit_refusal, judge_refusal, domain_in, key_vector, round_commitments};
+ghost use Rattle.transcript.specs.Transcript.{round_exchange, round_turn, round_challenge, round_reply, accepted_round};
 
 use commitment::Domain;
 use exchange::judge;
@@ -22,7 +22,7 @@ use system::{check, has_sizes};
 
 // 7 where the system has not the q, n and m of a record.
 pub fn fit_refusal<'a>(system: &'a [u8], bytes: &'a [u8]) -> u8
-    ensures { result ≡ fitRefusal system.now bytes.now }
+    ensures { result ≡ fit_refusal system.now bytes.now }
 {
     let h = header_of(bytes);
     unless(has_sizes(system, h.q, h.n, h.m), 7)
@@ -30,7 +30,7 @@ pub fn fit_refusal<'a>(system: &'a [u8], bytes: &'a [u8]) -> u8
 
 // The refusal of a system and a record that is judged by it, 0 for none; it ends at the first.
 pub fn judge_refusal<'a>(system: &'a [u8], bytes: &'a [u8]) -> u8
-    ensures { result ≡ judgeRefusal system.now bytes.now }
+    ensures { result ≡ judge_refusal system.now bytes.now }
 {
     let of_system = check(system);
     if of_system != 0 {
@@ -45,7 +45,7 @@ pub fn judge_refusal<'a>(system: &'a [u8], bytes: &'a [u8]) -> u8
 
 // What stands before ρ in the strings of a record's rounds.
 pub fn domain_in(bytes: &[u8]) -> Domain
-    ensures { result ≡ domainIn bytes.now }
+    ensures { result ≡ domain_in bytes.now }
 {
     let h = header_of(bytes);
     let scheme = h.scheme;
@@ -54,14 +54,14 @@ pub fn domain_in(bytes: &[u8]) -> Domain
 
 // v.
 pub fn key_vector(bytes: &[u8]) -> [u8; 96]
-    ensures { result ≡ keyVector bytes.now }
+    ensures { result ≡ key_vector bytes.now }
 {
     from_slice(body_of(bytes, laid_out(header_of(bytes)).key))
 }
 
 // The commitments of a round.
 pub fn round_commitments(bytes: &[u8], r: u8) -> &[u8]
-    ensures { result.now ≡ roundCommitments bytes.now r }
+    ensures { result.now ≡ round_commitments bytes.now r }
 {
     let h = header_of(bytes);
     let scheme = h.scheme;
@@ -75,7 +75,7 @@ pub fn round_commitments(bytes: &[u8], r: u8) -> &[u8]
 
 // The exchange of a round.
 pub fn round_exchange(bytes: &[u8], r: u8) -> &[u8]
-    ensures { result.now ≡ roundExchange bytes.now r }
+    ensures { result.now ≡ round_exchange bytes.now r }
 {
     let h = header_of(bytes);
     let scheme = h.scheme;
@@ -89,7 +89,7 @@ pub fn round_exchange(bytes: &[u8], r: u8) -> &[u8]
 
 // What of an exchange stands before the challenge: α, t1 and e1, or nothing.
 pub fn round_turn(bytes: &[u8], r: u8) -> &[u8]
-    ensures { result.now ≡ roundTurn bytes.now r }
+    ensures { result.now ≡ round_turn bytes.now r }
 {
     let h = header_of(bytes);
     let scheme = h.scheme;
@@ -98,7 +98,7 @@ pub fn round_turn(bytes: &[u8], r: u8) -> &[u8]
 
 // The challenge of a round.
 pub fn round_challenge(bytes: &[u8], r: u8) -> u8
-    ensures { result ≡ roundChallenge bytes.now r }
+    ensures { result ≡ round_challenge bytes.now r }
 {
     let h = header_of(bytes);
     let scheme = h.scheme;
@@ -107,7 +107,7 @@ pub fn round_challenge(bytes: &[u8], r: u8) -> u8
 
 // The reply of a round.
 pub fn round_reply(bytes: &[u8], r: u8) -> &[u8]
-    ensures { result.now ≡ roundReply bytes.now r }
+    ensures { result.now ≡ round_reply bytes.now r }
 {
     let h = header_of(bytes);
     let scheme = h.scheme;
@@ -120,8 +120,8 @@ pub fn round_reply(bytes: &[u8], r: u8) -> &[u8]
 
 // Whether a round is accepted.
 pub fn accepts_round<'a>(system: &'a [u8], bytes: &'a [u8], r: u8) -> bool
-    requires { systemRefusal system.now ≡ 0 }
-    ensures { result ≡ acceptedRound system.now bytes.now r }
+    requires { system_refusal system.now ≡ 0 }
+    ensures { result ≡ accepted_round system.now bytes.now r }
 {
     judge(
         system,

@@ -2,8 +2,8 @@
 use mathlib.Core.Path.{◌≡◌, ap, ◌∙◌}
 use native.Mathlib.Omega.{arith}
 use lib.ListN.{length}
-use Rattle.audit_lines.specs.AuditLines.{secretWord, hexLine}
-use Rattle.audit_lines.proofs.Front.{at-front, front-by, part-short, secret-text, clash-text, refused-text}
+use Rattle.audit_lines.specs.AuditLines.{secret_word, hex_line}
+use Rattle.audit_lines.proofs.Front.{at_front, front_by, part_short, secret_text, clash_text, refused_text}
 use borrow.Author.Rules.{rules}
 use Rattle.audit_lines.proofs.audit_text.Goals as goal
 
@@ -11,24 +11,24 @@ pub hex_line-requires : goal.hex_line-requires
 hex_line-requires c =
     let args = c.args in
     let long : length args.audited.secret ≡ 96 = search rules in
-    let short = part-short args.audited.secret _ args.n _ c.part.ensures long in
+    let short = part_short args.audited.secret _ args.n _ c.part.ensures long in
     omega (arith, short)
 
 pub returns-in-Secret : goal.returns-in-Secret
-unfolding secretWord
+unfolding secret_word
 returns-in-Secret c =
     let line = c.hex_line.ensures in
     let part = c.part in
     let args = c.args in
     let long : length args.audited.secret ≡ 96 = search rules in
-    let short = part-short args.audited.secret _ args.n _ part.ensures long in
-    front-by _ _ _ _ _ (at-front _ _ _ _ (line.0, line.1) (omega (arith, short, line.2)))
-    (ap (hexLine secretWord) part.ensures ∙ secret-text _ _ c.in-Secret.is)
+    let short = part_short args.audited.secret _ args.n _ part.ensures long in
+    front_by _ _ _ _ _ (at_front _ _ _ _ (line.0, line.1) (omega (arith, short, line.2)))
+    (ap (hex_line secret_word) part.ensures ∙ secret_text _ _ c.in-Secret.is)
 
 pub returns-in-Clash : goal.returns-in-Clash
 returns-in-Clash c =
-    front-by _ _ _ _ _ c.both_strings.ensures (clash-text _ _ _ c.in-Clash.is)
+    front_by _ _ _ _ _ c.both_strings.ensures (clash_text _ _ _ c.in-Clash.is)
 
 pub returns-in-Refused : goal.returns-in-Refused
 returns-in-Refused c =
-    front-by _ _ _ _ _ c.refusal_line.ensures (refused-text _ _ _ _ _ c.in-Refused.is)
+    front_by _ _ _ _ _ c.refusal_line.ensures (refused_text _ _ _ _ _ c.in-Refused.is)

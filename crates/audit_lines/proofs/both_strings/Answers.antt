@@ -2,8 +2,8 @@
 use mathlib.Core.Path.{◌≡◌, ap₂}
 use lib.ListN.{length}
 use Rattle.commitment.specs.Commitment.{longest}
-use Rattle.audit_lines.specs.AuditLines.{clashLines}
-use Rattle.audit_lines.proofs.Front.{front-by, part-short}
+use Rattle.audit_lines.specs.AuditLines.{clash_lines}
+use Rattle.audit_lines.proofs.Front.{front_by, part_short}
 use borrow.Author.Rules.{rules}
 use Rattle.audit_lines.proofs.both_strings.Goals as goal
 
@@ -12,9 +12,9 @@ clash_lines-requires c =
     let args = c.args in
     let first : length args.first.bytes ≡ longest = search rules in
     let second : length args.second.bytes ≡ longest = search rules in
-    (search rules, part-short args.first.bytes _ args.first.len _ c.part.ensures first, part-short args.second.bytes _ args.second.len _ c.part-2.ensures second)
+    (search rules, part_short args.first.bytes _ args.first.len _ c.part.ensures first, part_short args.second.bytes _ args.second.len _ c.part-2.ensures second)
 
 pub returns : goal.returns
 returns c =
-    front-by _ _ _ _ _ c.clash_lines.ensures
-    (ap₂ (clashLines _) c.part.ensures c.part-2.ensures)
+    front_by _ _ _ _ _ c.clash_lines.ensures
+    (ap₂ (clash_lines _) c.part.ensures c.part-2.ensures)

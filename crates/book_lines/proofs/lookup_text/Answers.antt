@@ -2,8 +2,8 @@
 use mathlib.Core.Path.{◌≡◌}
 use native.Mathlib.Omega.{arith}
 use lib.ListN.{length, length-take}
-use Rattle.book_lines.proofs.CardLines.{front-by}
-use Rattle.book_lines.proofs.Answers.{answer-text}
+use Rattle.book_lines.proofs.CardLines.{front_by}
+use Rattle.book_lines.proofs.Answers.{answer_text}
 use borrow.Author.Rules.{rules}
 use Rattle.book_lines.proofs.lookup_text.Goals as goal
 
@@ -14,5 +14,5 @@ answer_line-requires c =
 
 pub returns : goal.returns
 returns c =
-    front-by _ _ _ _ _ c.answer_line.ensures
-    (answer-text _ _ _ c.looked_up-found.result c.front_of-h.result c.looked_up-found.ensures c.front_of-h.ensures c.part.ensures)
+    front_by _ _ _ _ _ c.answer_line.ensures
+    (answer_text _ _ _ c.looked_up-found.result c.front_of-h.result c.looked_up-found.ensures c.front_of-h.ensures c.part.ensures)

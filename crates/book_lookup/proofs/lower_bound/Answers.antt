@@ -3,8 +3,8 @@ use Prim.Native.Nat.{ℕ, ◌-◌, ◌+◌, ◌/◌}
 use mathlib.Core.Path.{refl, sym, ap, ◌∙◌}
 use mathlib.Core.List.{List}
 use native.Mathlib.Omega.{arith}
-use Rattle.label.specs.Tests.{isBelow}
-use Rattle.book_lookup.proofs.Search.{all-left, upper-left, lower-left, bound}
+use Rattle.label.specs.Tests.{is_below}
+use Rattle.book_lookup.proofs.Search.{all_left, upper_left, lower_left, bound}
 use Rattle.book_lookup.proofs.lower_bound.Goals as goal
 
 -- the card that is looked at
@@ -14,7 +14,7 @@ middle low high = low + (high - low) / 2
 
 pub loop-low-init : goal.loop-low-init
 loop-low-init c =
-    all-left _ _ _
+    all_left _ _ _
 
 pub overflow_sub-middle : goal.overflow_sub-middle
 overflow_sub-middle c =
@@ -36,8 +36,8 @@ pub loop-low-preserved-then-is_below : goal.loop-low-preserved-then-is_below
 loop-low-preserved-then-is_below c =
     let loop = c.loop-low in
     let below = c.loop-low-test.true in
-    upper-left _ _ _ c.requires _ _ (middle loop.low loop.high) _ (omega arith) (omega (arith, below)) refl
-    (ap (λ (l : List ℕ). isBelow l c.args.label.now) (sym c.label_at.ensures) ∙ sym c.is_below.ensures ∙ c.if-is_below.true) loop.invariant
+    upper_left _ _ _ c.requires _ _ (middle loop.low loop.high) _ (omega arith) (omega (arith, below)) refl
+    (ap (λ (l : List ℕ). is_below l c.args.label.now) (sym c.label_at.ensures) ∙ sym c.is_below.ensures ∙ c.if-is_below.true) loop.invariant
 
 pub loop-low-smaller : goal.loop-low-smaller
 loop-low-smaller c =
@@ -47,8 +47,8 @@ pub loop-low-preserved : goal.loop-low-preserved
 loop-low-preserved c =
     let loop = c.loop-low in
     let below = c.loop-low-test.true in
-    lower-left _ _ _ c.requires _ _ (middle loop.low loop.high) (omega arith) (omega (arith, below))
-    (ap (λ (l : List ℕ). isBelow l c.args.label.now) (sym c.label_at.ensures) ∙ sym c.is_below.ensures ∙ c.if-is_below.false) loop.invariant
+    lower_left _ _ _ c.requires _ _ (middle loop.low loop.high) (omega arith) (omega (arith, below))
+    (ap (λ (l : List ℕ). is_below l c.args.label.now) (sym c.label_at.ensures) ∙ sym c.is_below.ensures ∙ c.if-is_below.false) loop.invariant
 
 pub returns : goal.returns
 returns c =

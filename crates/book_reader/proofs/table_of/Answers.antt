@@ -1,8 +1,8 @@
 -- The part behind the first seven bytes. Assumes nothing.
-use Rattle.book_form.specs.Book.{frontIn, tableIn}
+use Rattle.book_form.specs.Book.{front_in, table_in}
 use Rattle.book_reader.proofs.table_of.Goals as goal
 
 pub returns : goal.returns
-unfolding frontIn tableIn
+unfolding front_in table_in
 returns c =
     simp (c.part.ensures, c.table_length.ensures.0, c.number.ensures)

@@ -6,22 +6,22 @@ use mathlib.Core.List.{List, ◌++◌}
 use native.Mathlib.Omega.{arith}
 use lib.ListN.{length}
 use Rattle.slices.specs.Slices.{placed, word}
-use Rattle.slices.proofs.Joined.{piece-long}
+use Rattle.slices.proofs.Joined.{piece_long}
 use Rattle.slices.proofs.Parts.{placed-append}
 use Rattle.book_form.specs.declared.layout.Front.{Front}
-use Rattle.book_form.specs.Book.{offsetOf, labelOf, entry}
-use Rattle.book_form.specs.Labels.{labelAt}
+use Rattle.book_form.specs.Book.{offset_of, label_of, entry}
+use Rattle.book_form.specs.Labels.{label_at}
 use Rattle.book_writer.proofs.put_entry.Goals as goal
 
-ten : (labels l : List ℕ) (count i : ℕ) → length labels ≡ count * 10 → i < count → l ≡ labelAt 10 labels i → length l ≡ 10
-unfolding labelAt
-ten labels l count i long below is = ap length is ∙ piece-long 10 count labels i long below
+ten : (labels l : List ℕ) (count i : ℕ) → length labels ≡ count * 10 → i < count → l ≡ label_at 10 labels i → length l ≡ 10
+unfolding label_at
+ten labels l count i long below is = ap length is ∙ piece_long 10 count labels i long below
 
 -- what was put is the entry
 
-entry-put : (out labels s t : List ℕ) (h : Front) (i place k : ℕ) → place ≡ 7 + i * 14 → s ≡ labelAt 10 labels i → t ≡ word k → k ≡ offsetOf h i →
+entry-put : (out labels s t : List ℕ) (h : Front) (i place k : ℕ) → place ≡ 7 + i * 14 → s ≡ label_at 10 labels i → t ≡ word k → k ≡ offset_of h i →
     placed out place (s ++ t) ≡ placed out (7 + i * 14) (entry h labels i)
-unfolding entry labelOf labelAt
+unfolding entry label_of label_at
 entry-put out labels s t h i place k here label offset is = ap₂ (λ (p : ℕ) (e : List ℕ). placed out p e) here (ap₂ (λ (a b : List ℕ). a ++ b) label (offset ∙ ap word is))
 
 pub put-requires : goal.put-requires

@@ -5,34 +5,34 @@ use mathlib.Core.Bool.{Bool, not}
 use mathlib.Core.List.{List}
 use native.Mathlib.Omega.{arith}
 use Rattle.scheme.specs.declared.Scheme.{Scheme}
-use Rattle.scheme.specs.Scheme.{commitmentCount}
-use Rattle.refusal.specs.Refusal.{firstWhere}
-use Rattle.refusal.proofs.Search.{where-start, where-step, where-here, where-end}
-use Rattle.clash.specs.Clash.{samePair, firstClash}
+use Rattle.scheme.specs.Scheme.{commitment_count}
+use Rattle.refusal.specs.Refusal.{first_where}
+use Rattle.refusal.proofs.Search.{where_start, where_step, where_here, where_end}
+use Rattle.clash.specs.Clash.{same_pair, first_clash}
 use Rattle.clash.proofs.first_clash.Goals as goal
 
 -- a pair of the round differs
 abbrev Differs : Scheme → List ℕ → List ℕ → List ℕ → List ℕ → List ℕ → ℕ → ℕ → Bool
-Differs scheme system a b c d r k = not (samePair scheme system a b c d r k)
+Differs scheme system a b c d r k = not (same_pair scheme system a b c d r k)
 
-answer : (scheme : Scheme) (system a b c d : List ℕ) (r count found : ℕ) → count ≡ commitmentCount scheme →
-    found ≡ firstWhere count (Differs scheme system a b c d r) → found ≡ firstClash scheme system a b c d r
-unfolding firstClash
-answer scheme system a b c d r count found is e = e ∙ ap (λ (n : ℕ). firstWhere n (Differs scheme system a b c d r)) is
+answer : (scheme : Scheme) (system a b c d : List ℕ) (r count found : ℕ) → count ≡ commitment_count scheme →
+    found ≡ first_where count (Differs scheme system a b c d r) → found ≡ first_clash scheme system a b c d r
+unfolding first_clash
+answer scheme system a b c d r count found is e = e ∙ ap (λ (n : ℕ). first_where n (Differs scheme system a b c d r)) is
 
 pub loop-k-init : goal.loop-k-init
 loop-k-init c =
-    (where-start _ _ (omega arith), omega arith, omega arith)
+    (where_start _ _ (omega arith), omega arith, omega arith)
 
 pub loop-k-preserved : goal.loop-k-preserved
 loop-k-preserved c =
-    (where-step _ _ _ _ c.loop-k.invariant.0 (ap not c.same_pair.ensures) (ap not c.if-same_pair.true) refl, omega arith, omega arith)
+    (where_step _ _ _ _ c.loop-k.invariant.0 (ap not c.same_pair.ensures) (ap not c.if-same_pair.true) refl, omega arith, omega arith)
 
 pub returns-else-same_pair : goal.returns-else-same_pair
 returns-else-same_pair c =
     answer _ _ _ _ _ _ _ _ _ c.commitment_count-count.ensures.0
-    (where-here _ _ _ _ c.loop-k.invariant.0 (ap not c.same_pair.ensures) (ap not c.if-same_pair.false) (omega (arith, c.loop-k-test.true)))
+    (where_here _ _ _ _ c.loop-k.invariant.0 (ap not c.same_pair.ensures) (ap not c.if-same_pair.false) (omega (arith, c.loop-k-test.true)))
 
 pub returns : goal.returns
 returns c =
-    answer _ _ _ _ _ _ _ _ _ c.commitment_count-count.ensures.0 (where-end _ _ _ c.loop-k.invariant.0 c.loop-k.invariant.1 (omega (arith, c.loop-k-test.false)))
+    answer _ _ _ _ _ _ _ _ _ c.commitment_count-count.ensures.0 (where_end _ _ _ c.loop-k.invariant.0 c.loop-k.invariant.1 (omega (arith, c.loop-k-test.false)))

@@ -4,16 +4,16 @@ use mathlib.Core.Path.{◌≡◌}
 use mathlib.Core.Bool.{Bool, not}
 use mathlib.Core.List.{List}
 use Rattle.scheme.specs.declared.Scheme.{Scheme}
-use Rattle.refusal.specs.Refusal.{firstWhere}
-use Rattle.clash.specs.Clash.{samePair}
+use Rattle.refusal.specs.Refusal.{first_where}
+use Rattle.clash.specs.Clash.{same_pair}
 use Rattle.clash.proofs.first_clash.Given as goal
 
 -- a pair of the round differs
 abbrev Differs : Scheme → List ℕ → List ℕ → List ℕ → List ℕ → List ℕ → ℕ → ℕ → Bool
-Differs scheme system a b c d r k = not (samePair scheme system a b c d r k)
+Differs scheme system a b c d r k = not (same_pair scheme system a b c d r k)
 
 abbrev pub invariant-loop-k : goal.invariant-loop-k
-invariant-loop-k l = (firstWhere l.k (Differs l.scheme l.system l.a l.b l.c l.d l.r) ≡ 0) × (l.k ≤ l.count) × (l.count ≤ 255)
+invariant-loop-k l = (first_where l.k (Differs l.scheme l.system l.a l.b l.c l.d l.r) ≡ 0) × (l.k ≤ l.count) × (l.count ≤ 255)
 
 abbrev pub decreases-loop-k : goal.decreases-loop-k
 decreases-loop-k l = l.count - l.k

@@ -1,20 +1,20 @@
 -- By cases on the commitment. Assumes nothing.
 use borrow.Author.Tests.{ne_eqb}
 use native.Mathlib.Omega.{arith}
-use Rattle.clash.specs.Clash.{higherChallenge}
+use Rattle.clash.specs.Clash.{higher_challenge}
 use Rattle.clash.proofs.higher_challenge.Goals as goal
 
 pub returns-in-0 : goal.returns-in-0
-unfolding higherChallenge
+unfolding higher_challenge
 returns-in-0 c =
     simp c.in-0.is
 
 pub returns-in-1 : goal.returns-in-1
-unfolding higherChallenge
+unfolding higher_challenge
 returns-in-1 c =
     simp c.in-1.is
 
 pub returns-in_default : goal.returns-in_default
-unfolding higherChallenge
+unfolding higher_challenge
 returns-in_default c =
     simp (ne_eqb c.args.k 0 (omega arith), ne_eqb c.args.k 1 (omega arith))

@@ -1,13 +1,13 @@
 -- By cases on the scheme. Assumes nothing.
-use Rattle.clash.specs.Clash.{rightRecord}
+use Rattle.clash.specs.Clash.{right_record}
 use Rattle.clash.proofs.right_record.Goals as goal
 
 pub returns-in-ThreePass : goal.returns-in-ThreePass
-unfolding rightRecord
+unfolding right_record
 returns-in-ThreePass c =
     simp (c.in-ThreePass.is, c.answering.ensures, c.higher_challenge.ensures)
 
 pub returns-in-FivePass : goal.returns-in-FivePass
-unfolding rightRecord
+unfolding right_record
 returns-in-FivePass c =
     simp (c.in-FivePass.is, c.opener_five.ensures)

@@ -4,21 +4,21 @@ use mathlib.Core.List.{[], ◌∷◌}
 use Prim.Native.Nat.{ℕ}
 use native.Mathlib.Omega.{arith}
 use lib.ListN.{length}
-use Rattle.commitment.specs.Commitment.{prefix, vectorsAt}
-use Rattle.commitment.specs.Texts.{zeroBeyond}
-use Rattle.commitment.proofs.Texts.{text-start, text-put, same-text}
+use Rattle.commitment.specs.Commitment.{prefix, vectors_at}
+use Rattle.commitment.specs.Texts.{zero_beyond}
+use Rattle.commitment.proofs.Texts.{text_start, text_put, same_text}
 use borrow.Author.Rules.{rules}
 use Rattle.commitment.proofs.start.Goals as goal
 
 pub returns : goal.returns
-unfolding prefix vectorsAt
+unfolding prefix vectors_at
 returns c =
     let args = c.args in
     let long : length args.rho ≡ 32 = search rules in
     let byte = c.byte_of-first.ensures in
     let place = c.prefix_length.ensures.0 in
-    let two = text-start _ _ ∙ ap (λ (x : ℕ). zeroBeyond (x ∷ args.k ∷ [])) byte in
+    let two = text_start _ _ ∙ ap (λ (x : ℕ). zero_beyond (x ∷ args.k ∷ [])) byte in
     record {
-      is = same-text _ _ _ (text-put (prefix args.d args.k) args.rho _ _ _ two (sym place) (omega (arith, place, long)) c.put.ensures) (omega (arith, c.vectors_at.ensures.0));
+      is = same_text _ _ _ (text_put (prefix args.d args.k) args.rho _ _ _ two (sym place) (omega (arith, place, long)) c.put.ensures) (omega (arith, c.vectors_at.ensures.0));
       fits = omega (arith, c.vectors_at.ensures.0);
     }

@@ -5,29 +5,29 @@ use mathlib.Core.Bool.{not}
 use mathlib.Core.List.{List}
 use native.Mathlib.Omega.{arith}
 use Rattle.record_form.specs.declared.layout.Header.{Header}
-use Rattle.record_form.specs.Record.{headerIn}
-use Rattle.refusal.specs.Refusal.{firstWhere}
-use Rattle.refusal.proofs.Search.{where-start, where-step, where-here, where-end}
-use Rattle.comparable.specs.Comparable.{rejectedRound}
+use Rattle.record_form.specs.Record.{header_in}
+use Rattle.refusal.specs.Refusal.{first_where}
+use Rattle.refusal.proofs.Search.{where_start, where_step, where_here, where_end}
+use Rattle.comparable.specs.Comparable.{rejected_round}
 use Rattle.comparable.proofs.rejected_round.Invariants.{Rejects}
 use Rattle.comparable.proofs.rejected_round.Goals as goal
 
-answer : (system b : List ℕ) (h : Header) (found : ℕ) → h ≡ headerIn b → found ≡ firstWhere h.rounds (Rejects system b) → found ≡ rejectedRound system b
-unfolding rejectedRound
-answer system b h found is e = e ∙ ap (λ (k : Header). firstWhere k.rounds (Rejects system b)) is
+answer : (system b : List ℕ) (h : Header) (found : ℕ) → h ≡ header_in b → found ≡ first_where h.rounds (Rejects system b) → found ≡ rejected_round system b
+unfolding rejected_round
+answer system b h found is e = e ∙ ap (λ (k : Header). first_where k.rounds (Rejects system b)) is
 
 pub loop-r-init : goal.loop-r-init
 loop-r-init c =
-    (where-start _ _ refl, omega arith, omega arith)
+    (where_start _ _ refl, omega arith, omega arith)
 
 pub loop-r-preserved : goal.loop-r-preserved
 loop-r-preserved c =
-    (where-step _ _ _ _ c.loop-r.invariant.0 (ap not c.accepts_round.ensures) (ap not c.if-accepts_round.true) refl, omega arith, omega arith)
+    (where_step _ _ _ _ c.loop-r.invariant.0 (ap not c.accepts_round.ensures) (ap not c.if-accepts_round.true) refl, omega arith, omega arith)
 
 pub returns-else-accepts_round : goal.returns-else-accepts_round
 returns-else-accepts_round c =
-    answer _ _ _ _ c.header_of-rounds.ensures (where-here _ _ _ _ c.loop-r.invariant.0 (ap not c.accepts_round.ensures) (ap not c.if-accepts_round.false) c.loop-r-test.true)
+    answer _ _ _ _ c.header_of-rounds.ensures (where_here _ _ _ _ c.loop-r.invariant.0 (ap not c.accepts_round.ensures) (ap not c.if-accepts_round.false) c.loop-r-test.true)
 
 pub returns : goal.returns
 returns c =
-    answer _ _ _ _ c.header_of-rounds.ensures (where-end _ _ _ c.loop-r.invariant.0 c.loop-r.invariant.1 c.loop-r-test.false)
+    answer _ _ _ _ c.header_of-rounds.ensures (where_end _ _ _ c.loop-r.invariant.0 c.loop-r.invariant.1 c.loop-r-test.false)

@@ -1,8 +1,8 @@
 -- The test is of the digest, against 32 bytes from 32·k on. Assumes nothing.
-use Rattle.round.specs.Openings.{bytesAt, commitmentAt}
+use Rattle.round.specs.Openings.{bytes_at, commitment_at}
 use Rattle.judgement.proofs.opens.Goals as goal
 
 pub returns : goal.returns
-unfolding commitmentAt bytesAt
+unfolding commitment_at bytes_at
 returns c =
     simp (c.same32.ensures, c.bytes32.ensures, c.digest.ensures)

@@ -4,11 +4,11 @@ use mathlib.Core.Path.{◌≡◌}
 use lib.ListN.{length}
 use Rattle.label.specs.Label.{halves}
 use Rattle.label.specs.Tests.{rises}
-use Rattle.label.proofs.Labels.{fromByte}
+use Rattle.label.proofs.Labels.{from_byte}
 use Rattle.label.proofs.is_below.Given as goal
 
 abbrev pub invariant-loop-i : goal.invariant-loop-i
-invariant-loop-i l = (rises (halves l.a) (halves l.b) ≡ fromByte l.a l.b l.i) × (l.i ≤ 10) × (length l.a ≡ 10) × (length l.b ≡ 10)
+invariant-loop-i l = (rises (halves l.a) (halves l.b) ≡ from_byte l.a l.b l.i) × (l.i ≤ 10) × (length l.a ≡ 10) × (length l.b ≡ 10)
 
 abbrev pub decreases-loop-i : goal.decreases-loop-i
 decreases-loop-i l = 10 - l.i

@@ -7,8 +7,8 @@ use native.Mathlib.Numerals.{add-one}
 use native.Mathlib.Omega.{arith}
 use lib.ListN.{length}
 use Rattle.slices.specs.Slices.{◌!◌}
-use Rattle.label.specs.Tests.{areDigits, allOf, isLabel}
-use Rattle.label.proofs.Labels.{not-ten, last-decides}
+use Rattle.label.specs.Tests.{are_digits, all_of, is_label}
+use Rattle.label.proofs.Labels.{not_ten, last_decides}
 use borrow.Author.Tests.{eq-eqb}
 use Rattle.label.proofs.is_label.Goals as goal
 
@@ -23,33 +23,33 @@ and-true : (a : Bool) → a && true ≡ a
 and-true true = refl
 and-true false = refl
 
-step : (l : List ℕ) (i : ℕ) → allOf (i + 1) (λ k. areDigits (l ! k)) ≡ (allOf i (λ k. areDigits (l ! k)) && areDigits (l ! i))
-unfolding allOf
-step l i = ap (λ (k : ℕ). allOf k (λ j. areDigits (l ! j))) (add-one i)
+step : (l : List ℕ) (i : ℕ) → all_of (i + 1) (λ k. are_digits (l ! k)) ≡ (all_of i (λ k. are_digits (l ! k)) && are_digits (l ! i))
+unfolding all_of
+step l i = ap (λ (k : ℕ). all_of k (λ j. are_digits (l ! j))) (add-one i)
 
-wrong : (l : List ℕ) (i : ℕ) (t good : Bool) → t ≡ areDigits (l ! i) → t ≡ false → good ≡ false → allOf (i + 1) (λ k. areDigits (l ! k)) ≡ good
-wrong l i t good is fails now-false = step l i ∙ ap (λ (b : Bool). allOf i (λ k. areDigits (l ! k)) && b) (sym is ∙ fails) ∙ and-false (allOf i (λ k. areDigits (l ! k))) ∙ sym now-false
+wrong : (l : List ℕ) (i : ℕ) (t good : Bool) → t ≡ are_digits (l ! i) → t ≡ false → good ≡ false → all_of (i + 1) (λ k. are_digits (l ! k)) ≡ good
+wrong l i t good is fails now-false = step l i ∙ ap (λ (b : Bool). all_of i (λ k. are_digits (l ! k)) && b) (sym is ∙ fails) ∙ and-false (all_of i (λ k. are_digits (l ! k))) ∙ sym now-false
 
-right : (l : List ℕ) (i : ℕ) (t old good : Bool) → allOf i (λ k. areDigits (l ! k)) ≡ old → t ≡ areDigits (l ! i) → t ≡ true → good ≡ old →
-    allOf (i + 1) (λ k. areDigits (l ! k)) ≡ good
-right l i t old good before is holds same = step l i ∙ ap (λ (b : Bool). allOf i (λ k. areDigits (l ! k)) && b) (sym is ∙ holds) ∙ and-true (allOf i (λ k. areDigits (l ! k))) ∙ before ∙ sym same
+right : (l : List ℕ) (i : ℕ) (t old good : Bool) → all_of i (λ k. are_digits (l ! k)) ≡ old → t ≡ are_digits (l ! i) → t ≡ true → good ≡ old →
+    all_of (i + 1) (λ k. are_digits (l ! k)) ≡ good
+right l i t old good before is holds same = step l i ∙ ap (λ (b : Bool). all_of i (λ k. are_digits (l ! k)) && b) (sym is ∙ holds) ∙ and-true (all_of i (λ k. are_digits (l ! k))) ∙ before ∙ sym same
 
-none : (l : List ℕ) → length l ≡ 10 → allOf 9 (λ k. areDigits (l ! k)) ≡ false → false ≡ isLabel l
-unfolding isLabel
+none : (l : List ℕ) → length l ≡ 10 → all_of 9 (λ k. are_digits (l ! k)) ≡ false → false ≡ is_label l
+unfolding is_label
 none l ten fails = sym (simp (eq-eqb (length l) 10 ten, fails))
 
 pub returns-then-bytes-ne10 : goal.returns-then-bytes-ne10
-unfolding allOf
+unfolding all_of
 returns-then-bytes-ne10 c =
-    not-ten _ c.if-bytes-ne10.true
+    not_ten _ c.if-bytes-ne10.true
 
 pub loop-i-init : goal.loop-i-init
-unfolding allOf
+unfolding all_of
 loop-i-init c =
     (refl, omega arith, omega arith)
 
 pub loop-i-preserved : goal.loop-i-preserved
-unfolding allOf
+unfolding all_of
 loop-i-preserved c =
     let loop = c.loop-i in
     let bytes = c.args.bytes.now in (
@@ -62,13 +62,13 @@ loop-i-preserved c =
     )
 
 pub returns-then-good : goal.returns-then-good
-unfolding allOf
+unfolding all_of
 returns-then-good c =
     let loop = c.loop-i in
-    c.are_last.ensures ∙ last-decides _ loop.invariant.2 (rw (nine _ loop.invariant.1 c.loop-i-test.false) at loop.invariant.0 ∙ c.if-good.true)
+    c.are_last.ensures ∙ last_decides _ loop.invariant.2 (rw (nine _ loop.invariant.1 c.loop-i-test.false) at loop.invariant.0 ∙ c.if-good.true)
 
 pub returns-else-good : goal.returns-else-good
-unfolding allOf
+unfolding all_of
 returns-else-good c =
     let loop = c.loop-i in
     none _ loop.invariant.2 (rw (nine _ loop.invariant.1 c.loop-i-test.false) at loop.invariant.0 ∙ c.if-good.false)

@@ -1,9 +1,9 @@
 -- The callees' answers, put together. Assumes nothing.
-use Rattle.commitment.proofs.Texts.{text-as}
-use Rattle.openings.proofs.Listed.{three-in}
+use Rattle.commitment.proofs.Texts.{text_as}
+use Rattle.openings.proofs.Listed.{three_in}
 use Rattle.openings.proofs.opening_three_in.Goals as goal
 
 pub returns : goal.returns
 returns c =
-    text-as _ _ 0 _ c.opening_three.ensures
-    (simp (c.read_reply_three.ensures, c.round_reply.ensures, c.round_challenge.ensures, c.key_vector.ensures, c.domain_in.ensures, c.byte_at-m.ensures, c.byte_at-n.ensures) (three-in _ _ _ _ c.requires.1))
+    text_as _ _ 0 _ c.opening_three.ensures
+    (simp (c.read_reply_three.ensures, c.round_reply.ensures, c.round_challenge.ensures, c.key_vector.ensures, c.domain_in.ensures, c.byte_at-m.ensures, c.byte_at-n.ensures) (three_in _ _ _ _ c.requires.1))

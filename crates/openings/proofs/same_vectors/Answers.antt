@@ -8,21 +8,21 @@ use lib.ListN.{take, drop, length-take, length-drop}
 use lib.Seq.{take_all}
 use Rattle.slices.specs.Slices.{same}
 use Rattle.commitment.specs.declared.Domain.{Domain}
-use Rattle.commitment.specs.Commitment.{vectorsAt, vectorsIn}
-use Rattle.openings.specs.Openings.{sameVectors}
+use Rattle.commitment.specs.Commitment.{vectors_at, vectors_in}
+use Rattle.openings.specs.Openings.{same_vectors}
 use Rattle.openings.proofs.same_vectors.Goals as goal
 
-to-end : (n at : ℕ) (l : List ℕ) → take n (drop at (take n l)) ≡ drop at (take n l)
-to-end n at l = take_all n (drop at (take n l)) (simp (length-drop, length-take) (omega arith))
+to_end : (n at : ℕ) (l : List ℕ) → take n (drop at (take n l)) ≡ drop at (take n l)
+to_end n at l = take_all n (drop at (take n l)) (simp (length-drop, length-take) (omega arith))
 
 -- so the part of what is held is the string's vectors
 
-side : (d : Domain) (n at : ℕ) (l p q : List ℕ) → p ≡ take n l → q ≡ take n (drop at p) → at ≡ vectorsAt d → q ≡ vectorsIn d (take n l)
-unfolding vectorsIn
-side d n at l p q ep eq ea = eq ∙ ap₂ (λ (k : ℕ) (s : List ℕ). take n (drop k s)) ea ep ∙ to-end n (vectorsAt d) l
+side : (d : Domain) (n at : ℕ) (l p q : List ℕ) → p ≡ take n l → q ≡ take n (drop at p) → at ≡ vectors_at d → q ≡ vectors_in d (take n l)
+unfolding vectors_in
+side d n at l p q ep eq ea = eq ∙ ap₂ (λ (k : ℕ) (s : List ℕ). take n (drop k s)) ea ep ∙ to_end n (vectors_at d) l
 
 pub returns : goal.returns
-unfolding sameVectors
+unfolding same_vectors
 returns c =
     let a = c.args in
     let at = c.vectors_at-at.ensures.0 in

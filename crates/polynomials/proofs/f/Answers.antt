@@ -15,9 +15,9 @@ bounds-system-1 c =
 
 pub monomials-requires : goal.monomials-requires
 monomials-requires c =
-    ((accepted _ c.requires).n-high, refl)
+    ((accepted _ c.requires).n_high, refl)
 
 pub returns : goal.returns
 returns c =
     c.products.ensures ∙
-    evaluated c.args.system.now (accepted _ c.requires).n-high c.args.x _ c.monomials.ensures
+    evaluated c.args.system.now (accepted _ c.requires).n_high c.args.x _ c.monomials.ensures

@@ -15,9 +15,9 @@ bounds-system-1 c =
 
 pub monomials-requires : goal.monomials-requires
 monomials-requires c =
-    ((accepted _ c.requires).n-high, refl)
+    ((accepted _ c.requires).n_high, refl)
 
 pub returns : goal.returns
 returns c =
     c.products.ensures ∙
-    polarised c.args.system.now (accepted _ c.requires).n-high c.args.x c.args.y _ c.monomials.ensures
+    polarised c.args.system.now (accepted _ c.requires).n_high c.args.x c.args.y _ c.monomials.ensures

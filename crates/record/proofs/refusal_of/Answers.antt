@@ -1,13 +1,13 @@
 -- Each arm knows its variant. Assumes nothing.
-use Rattle.record.specs.Reader.{refusalOf}
+use Rattle.record.specs.Reader.{refusal_of}
 use Rattle.record.proofs.refusal_of.Goals as goal
 
 pub returns-in-Good : goal.returns-in-Good
-unfolding refusalOf
+unfolding refusal_of
 returns-in-Good c =
     rw c.in-Good.is
 
 pub returns-in-Refused : goal.returns-in-Refused
-unfolding refusalOf
+unfolding refusal_of
 returns-in-Refused c =
     rw c.in-Refused.is

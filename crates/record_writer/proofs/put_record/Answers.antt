@@ -5,13 +5,13 @@ use mathlib.Core.Path.{◌≡◌, refl, ap₂, ◌∙◌}
 use mathlib.Core.List.{List, ◌++◌, ◌∷◌, []}
 use native.Mathlib.Omega.{arith}
 use lib.ListN.{length}
-use Rattle.slices.proofs.Parts.{placed-next, placed-all}
+use Rattle.slices.proofs.Parts.{placed_next, placed_all}
 use Rattle.record_form.specs.declared.layout.Header.{Header}
 use Rattle.record_form.specs.Record.{head, written}
 use Rattle.record_writer.proofs.put_record.Goals as goal
 
-abbrev headBy : ℕ → Header → List ℕ
-headBy byte h = 1 ∷ byte ∷ h.q ∷ h.n ∷ h.m ∷ h.rounds ∷ []
+abbrev head_by : ℕ → Header → List ℕ
+head_by byte h = 1 ∷ byte ∷ h.q ∷ h.n ∷ h.m ∷ h.rounds ∷ []
 
 pub returns : goal.returns
 unfolding written head
@@ -25,7 +25,7 @@ returns c =
     let four = c.put-4 in
     let five = c.put-5 in
     let whole = c.requires in
-    let head-long : length (headBy byte.result args.h) ≡ 6 = refl in
+    let head-long : length (head_by byte.result args.h) ≡ 6 = refl in
     let contents-long = contents.ensures.1 in
     let one_kept = one.auto.out in
     let two-kept = two.auto.out in
@@ -35,10 +35,10 @@ returns c =
     let key = length args.key.now in
     let commitments = length args.commitments.now in
     let exchanges = length args.exchanges.now in
-    let first = placed-next [] (headBy byte.result args.h) args.out.now one.new.out 0 6 refl (omega arith) (omega arith) one.ensures in
-    let second = placed-next _ contents.result one.new.out two.new.out 6 30 first (omega arith) (omega arith) two.ensures in
-    let third = placed-next _ args.key.now two.new.out three.new.out 30 (30 + key) second (omega arith) (omega arith) three.ensures in
-    let fourth = placed-next _ args.commitments.now three.new.out four.new.out (30 + key) (30 + key + commitments) third (omega arith) (omega arith) four.ensures in
-    let fifth = placed-next _ args.exchanges.now four.new.out five.new.out (30 + key + commitments) (30 + key + commitments + exchanges) fourth (omega arith) (omega arith) five.ensures in
-    placed-all _ five.new.out (30 + key + commitments + exchanges) fifth (omega arith) ∙
-    ap₂ (λ (x : ℕ) (t : List ℕ). headBy x args.h ++ t ++ args.key.now ++ args.commitments.now ++ args.exchanges.now) byte.ensures contents.ensures.0
+    let first = placed_next [] (head_by byte.result args.h) args.out.now one.new.out 0 6 refl (omega arith) (omega arith) one.ensures in
+    let second = placed_next _ contents.result one.new.out two.new.out 6 30 first (omega arith) (omega arith) two.ensures in
+    let third = placed_next _ args.key.now two.new.out three.new.out 30 (30 + key) second (omega arith) (omega arith) three.ensures in
+    let fourth = placed_next _ args.commitments.now three.new.out four.new.out (30 + key) (30 + key + commitments) third (omega arith) (omega arith) four.ensures in
+    let fifth = placed_next _ args.exchanges.now four.new.out five.new.out (30 + key + commitments) (30 + key + commitments + exchanges) fourth (omega arith) (omega arith) five.ensures in
+    placed_all _ five.new.out (30 + key + commitments + exchanges) fifth (omega arith) ∙
+    ap₂ (λ (x : ℕ) (t : List ℕ). head_by x args.h ++ t ++ args.key.now ++ args.commitments.now ++ args.exchanges.now) byte.ensures contents.ensures.0

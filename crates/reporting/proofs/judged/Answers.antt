@@ -3,13 +3,13 @@ use Prim.Native.Nat.{◌-◌, ◌+◌}
 use mathlib.Core.Path.{◌≡◌, refl, ap}
 use native.Mathlib.Omega.{arith}
 use Rattle.record_form.specs.declared.layout.Header.{Header}
-use Rattle.transcript.proofs.Counts.{count-start, count-step}
-use Rattle.reporting.proofs.Lines.{lines-start, lines-step, text-end}
+use Rattle.transcript.proofs.Counts.{count_start, count_step}
+use Rattle.reporting.proofs.Lines.{lines_start, lines_step, text_end}
 use Rattle.reporting.proofs.judged.Goals as goal
 
 pub loop-left-init : goal.loop-left-init
 loop-left-init c =
-    (omega arith, omega arith, omega arith, omega arith, count-start _ _ (c.header_of-rounds.result.rounds - c.header_of-rounds.result.rounds) (omega arith), lines-start _ _ _ (c.header_of-rounds.result.rounds - c.header_of-rounds.result.rounds) (omega arith))
+    (omega arith, omega arith, omega arith, omega arith, count_start _ _ (c.header_of-rounds.result.rounds - c.header_of-rounds.result.rounds) (omega arith), lines_start _ _ _ (c.header_of-rounds.result.rounds - c.header_of-rounds.result.rounds) (omega arith))
 
 pub accepts_round-round_accepted-requires : goal.accepts_round-round_accepted-requires
 accepts_round-round_accepted-requires c =
@@ -25,14 +25,14 @@ loop-left-preserved c =
     let loop = c.loop-left in
     let rounds = c.header_of-rounds.result.rounds in
     let judged = c.accepts_round-round_accepted.ensures in
-    let one-more = c.counted-accepted.ensures.1 in
+    let one_more = c.counted-accepted.ensures.1 in
     let next : rounds - (loop.left - 1) ≡ rounds - loop.left + 1 = omega arith in (
       omega arith,
       omega arith,
       omega arith,
       omega arith,
-      count-step _ _ _ _ _ _ _ loop.invariant.4 next judged c.counted-accepted.ensures.0,
-      lines-step _ _ _ _ _ _ _ _ _ _ _ loop.invariant.5 c.requires.1 (omega arith) next c.round_challenge-challenge.ensures judged line.ensures.0 line.ensures.1 line.ensures.2,
+      count_step _ _ _ _ _ _ _ loop.invariant.4 next judged c.counted-accepted.ensures.0,
+      lines_step _ _ _ _ _ _ _ _ _ _ _ loop.invariant.5 c.requires.1 (omega arith) next c.round_challenge-challenge.ensures judged line.ensures.0 line.ensures.1 line.ensures.2,
     )
 
 pub verdict_line-next-requires : goal.verdict_line-next-requires
@@ -50,4 +50,4 @@ returns c =
     let loop = c.loop-left in
     let rounds = c.header_of-rounds.result.rounds in
     let all : rounds - loop.left ≡ rounds = omega arith in
-    text-end _ _ _ _ _ _ _ _ _ _ _ _ _ loop.invariant.5 c.requires.1 loop.invariant.2 (omega arith) all (ap (λ (h : Header). h.rounds) c.header_of-rounds.ensures) loop.invariant.4 refl (verdict.0, verdict.1) verdict.2 (totals.0, totals.1) totals.2
+    text_end _ _ _ _ _ _ _ _ _ _ _ _ _ loop.invariant.5 c.requires.1 loop.invariant.2 (omega arith) all (ap (λ (h : Header). h.rounds) c.header_of-rounds.ensures) loop.invariant.4 refl (verdict.0, verdict.1) verdict.2 (totals.0, totals.1) totals.2

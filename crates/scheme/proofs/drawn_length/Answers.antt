@@ -1,14 +1,14 @@
 -- Each arm knows its variant. Assumes nothing.
 use native.Mathlib.Omega.{arith}
-use Rattle.scheme.specs.Scheme.{drawnLength}
+use Rattle.scheme.specs.Scheme.{drawn_length}
 use Rattle.scheme.proofs.drawn_length.Goals as goal
 
 pub returns-in-ThreePass : goal.returns-in-ThreePass
-unfolding drawnLength
+unfolding drawn_length
 returns-in-ThreePass c =
     (rw c.in-ThreePass.is, omega arith)
 
 pub returns-in-FivePass : goal.returns-in-FivePass
-unfolding drawnLength
+unfolding drawn_length
 returns-in-FivePass c =
     (rw c.in-FivePass.is, omega arith)

@@ -1,9 +1,9 @@
 -- The callees' answers, put together. Assumes nothing.
 use native.Mathlib.Omega.{arith}
-use Rattle.scheme.specs.Scheme.{lentLength}
+use Rattle.scheme.specs.Scheme.{lent_length}
 use Rattle.scheme.proofs.lent_length.Goals as goal
 
 pub returns : goal.returns
-unfolding lentLength
+unfolding lent_length
 returns c =
     (omega arith, omega arith)

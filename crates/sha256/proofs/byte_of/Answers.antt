@@ -1,9 +1,9 @@
 -- `byte_of` meets its contract: a shift by whole bytes and a remainder.
 use mathlib.Core.Path.{refl}
-use Rattle.sha256_block.specs.Bytes.{byteOf}
+use Rattle.sha256_block.specs.Bytes.{byte_of}
 use Rattle.sha256.proofs.byte_of.Goals as goal
 
 pub returns : goal.returns
-unfolding byteOf
+unfolding byte_of
 returns c =
     refl

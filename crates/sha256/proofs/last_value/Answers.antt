@@ -3,31 +3,31 @@ use mathlib.Core.Path.{◌≡◌, ap, ◌∙◌}
 use native.Mathlib.Omega.{arith}
 use lib.ListN.{length}
 use Rattle.sha256_block.specs.State.{variables}
-use Rattle.sha256.specs.Padding.{pad, blockCount}
-use Rattle.sha256.proofs.PaddedMessage.{blockCount-pad, length-block}
-use Rattle.sha256.proofs.HashValue.{hashValue-more}
+use Rattle.sha256.specs.Padding.{pad, block_count}
+use Rattle.sha256.proofs.PaddedMessage.{block_count-pad, length-block}
+use Rattle.sha256.proofs.HashValue.{hash_value_more}
 use Rattle.sha256.proofs.last_value.Goals as goal
 
 pub loop-i-init : goal.loop-i-init
 loop-i-init c =
-    (omega (arith, blockCount-pad c.args.message.now), c.whole_blocks-s.ensures)
+    (omega (arith, block_count-pad c.args.message.now), c.whole_blocks-s.ensures)
 
 pub padded_block-b-requires : goal.padded_block-b-requires
 padded_block-b-requires c =
-    omega (arith, blockCount-pad c.args.message.now)
+    omega (arith, block_count-pad c.args.message.now)
 
 pub hash_block-s-requires : goal.hash_block-s-requires
 hash_block-s-requires c =
     let m = c.args.message.now in
-    ap length c.padded_block-b.ensures ∙ length-block (pad m) c.loop-i.i (omega (arith, blockCount-pad m))
+    ap length c.padded_block-b.ensures ∙ length-block (pad m) c.loop-i.i (omega (arith, block_count-pad m))
 
 pub loop-i-preserved : goal.loop-i-preserved
 loop-i-preserved c =
     let m = c.args.message.now in
-    (omega (arith, blockCount-pad m), hashValue-more (pad m) c.padded_block-b.result c.loop-i.i (variables c.loop-i.s) (variables c.hash_block-s.result) c.padded_block-b.ensures c.loop-i.invariant.1 c.hash_block-s.ensures)
+    (omega (arith, block_count-pad m), hash_value_more (pad m) c.padded_block-b.result c.loop-i.i (variables c.loop-i.s) (variables c.hash_block-s.result) c.padded_block-b.ensures c.loop-i.invariant.1 c.hash_block-s.ensures)
 
 pub returns : goal.returns
 returns c =
     let m = c.args.message.now in
-    let at-end : c.loop-i.i ≡ blockCount (pad m) = omega (arith, blockCount-pad m) in
-    rw at-end at c.loop-i.invariant.1
+    let at_end : c.loop-i.i ≡ block_count (pad m) = omega (arith, block_count-pad m) in
+    rw at_end at c.loop-i.invariant.1

@@ -2,12 +2,12 @@
 use mathlib.Core.Path.{◌≡◌}
 use Prim.Native.Nat.{◌≤◌, ◌-◌}
 use Rattle.sha256_block.specs.State.{variables}
-use Rattle.sha256.specs.Padding.{pad, blockCount}
-use Rattle.sha256.specs.Sha256.{hashValue}
+use Rattle.sha256.specs.Padding.{pad, block_count}
+use Rattle.sha256.specs.Sha256.{hash_value}
 use Rattle.sha256.proofs.last_value.Given as goal
 
 abbrev pub invariant-loop-i : goal.invariant-loop-i
-invariant-loop-i l = (l.i ≤ blockCount (pad l.message)) × (variables l.s ≡ hashValue (pad l.message) l.i)
+invariant-loop-i l = (l.i ≤ block_count (pad l.message)) × (variables l.s ≡ hash_value (pad l.message) l.i)
 
 abbrev pub decreases-loop-i : goal.decreases-loop-i
 decreases-loop-i l = l.count - l.i

@@ -5,11 +5,11 @@ use Prim.Native.Nat.{◌≤◌, ◌-◌, ◌/◌}
 use lib.ListN.{length}
 use Rattle.sha256_block.specs.State.{variables}
 use Rattle.sha256.specs.Padding.{pad}
-use Rattle.sha256.specs.Sha256.{hashValue}
+use Rattle.sha256.specs.Sha256.{hash_value}
 use Rattle.sha256.proofs.whole_blocks.Given as goal
 
 abbrev pub invariant-loop-i : goal.invariant-loop-i
-invariant-loop-i l = (l.i ≤ length l.message / 64) × (variables l.s ≡ hashValue (pad l.message) l.i)
+invariant-loop-i l = (l.i ≤ length l.message / 64) × (variables l.s ≡ hash_value (pad l.message) l.i)
 
 abbrev pub decreases-loop-i : goal.decreases-loop-i
 decreases-loop-i l = length l.message / 64 - l.i

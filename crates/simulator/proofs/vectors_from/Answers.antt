@@ -1,8 +1,8 @@
 -- The callees' answers, put together. Assumes nothing.
-use Rattle.simulator.specs.Simulator.{vectorsFrom}
+use Rattle.simulator.specs.Simulator.{vectors_from}
 use Rattle.simulator.proofs.vectors_from.Goals as goal
 
 pub returns : goal.returns
-unfolding vectorsFrom
+unfolding vectors_from
 returns c =
     simp (c.simulated.ensures, c.from_slice.ensures, c.slot-s.ensures, c.byte_at.ensures)

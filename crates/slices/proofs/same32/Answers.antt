@@ -2,7 +2,7 @@
 use mathlib.Core.Path.{sym}
 use native.Mathlib.Omega.{arith}
 use borrow.Author.Count.{below_none, below_more}
-use Rattle.slices.proofs.Sameness.{same-each, same-differs}
+use Rattle.slices.proofs.Sameness.{same_each, same_differs}
 use borrow.Author.Rules.{rules}
 use Rattle.slices.proofs.same32.Goals as goal
 
@@ -12,7 +12,7 @@ loop-place-init c =
 
 pub returns-then-a-place : goal.returns-then-a-place
 returns-then-a-place c =
-    sym (same-differs _ _ c.loop-place.place c.if-a-place.true)
+    sym (same_differs _ _ c.loop-place.place c.if-a-place.true)
 
 pub loop-place-preserved : goal.loop-place-preserved
 loop-place-preserved c =
@@ -20,4 +20,4 @@ loop-place-preserved c =
 
 pub returns : goal.returns
 returns c =
-    sym (same-each _ _ 32 (search rules) (search rules) (λ k h. c.loop-place.invariant.1 k (omega arith)))
+    sym (same_each _ _ 32 (search rules) (search rules) (λ k h. c.loop-place.invariant.1 k (omega arith)))

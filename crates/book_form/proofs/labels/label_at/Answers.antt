@@ -2,10 +2,10 @@
 use Prim.Native.Nat.{ℕ}
 use mathlib.Core.Path.{ap, ◌∙◌}
 use lib.ListN.{take, drop}
-use Rattle.book_form.specs.Labels.{labelAt}
+use Rattle.book_form.specs.Labels.{label_at}
 use Rattle.book_form.proofs.labels.label_at.Goals as goal
 
 pub returns : goal.returns
-unfolding labelAt
+unfolding label_at
 returns c =
     c.part.ensures ∙ ap (λ (k : ℕ). take 10 (drop k c.args.bytes.now)) c.of_cards.ensures.0

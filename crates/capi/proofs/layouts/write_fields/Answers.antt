@@ -2,12 +2,12 @@
 use Prim.Native.Nat.{ℕ}
 use mathlib.Core.Path.{ap₂, ◌∙◌}
 use mathlib.Core.List.{List, [], ◌∷◌, ◌++◌}
-use Rattle.record_form.specs.Record.{layoutOf, table}
-use Rattle.capi.specs.Layouts.{fieldsBytes}
+use Rattle.record_form.specs.Record.{layout_of, table}
+use Rattle.capi.specs.Layouts.{fields_bytes}
 use Rattle.capi.proofs.layouts.write_fields.Goals as goal
 
 pub returns : goal.returns
-unfolding fieldsBytes layoutOf table
+unfolding fields_bytes layout_of table
 returns c =
     let h = c.args.h in
     c.put_both.ensures ∙

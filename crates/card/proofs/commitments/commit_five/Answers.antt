@@ -1,14 +1,14 @@
 -- The callees' answers, put together. Assumes nothing.
 use Rattle.slices.specs.Slices.{zeros}
-use Rattle.exchange.specs.Card.{fiveCommitted}
-use Rattle.card_state.proofs.Steps.{committed-five, sent-five}
+use Rattle.exchange.specs.Card.{five_committed}
+use Rattle.card_state.proofs.Steps.{committed_five, sent_five}
 use Rattle.card.proofs.commitments.commit_five.Goals as goal
 
 pub returns : goal.returns
-unfolding fiveCommitted zeros
+unfolding five_committed zeros
 returns c =
     let a = c.args in
     let five = c.requires.0 in (
-      simp (committed-five a.card a.system.now a.lent.now five, c.card_with.ensures, c.read_lent-l.ensures, c.byte_at-m.ensures, c.byte_at-n.ensures),
-      simp (sent-five a.card a.system.now a.lent.now five, c.write_five_commitments.ensures, c.commitments_five.ensures, c.card_domain.ensures, c.read_lent-l.ensures, c.byte_at-m.ensures, c.byte_at-n.ensures),
+      simp (committed_five a.card a.system.now a.lent.now five, c.card_with.ensures, c.read_lent-l.ensures, c.byte_at-m.ensures, c.byte_at-n.ensures),
+      simp (sent_five a.card a.system.now a.lent.now five, c.write_five_commitments.ensures, c.commitments_five.ensures, c.card_domain.ensures, c.read_lent-l.ensures, c.byte_at-m.ensures, c.byte_at-n.ensures),
     )

@@ -1,9 +1,9 @@
 -- The callees' answers, put together. Assumes nothing.
 use Rattle.slices.specs.Slices.{zeros}
-use Rattle.card_state.specs.Card.{openedCard}
+use Rattle.card_state.specs.Card.{opened_card}
 use Rattle.card.proofs.opening.opened_card.Goals as goal
 
 pub returns : goal.returns
-unfolding openedCard zeros
+unfolding opened_card zeros
 returns c =
     simp (c.no_rhos.ensures, c.from_slice.ensures, c.byte_at-3.ensures, c.byte_at-2.ensures, c.byte_at.ensures, c.scheme_of-passes.ensures)

@@ -1,17 +1,17 @@
 -- What is refused stays, else the reply is written and the round forgotten. Assumes nothing.
 use mathlib.Core.Path.{refl, sym, ◌∙◌}
-use Rattle.refusal.proofs.Refusals.{kept-refused, kept-accepted}
-use Rattle.card_state.proofs.Taken.{reply-taken}
+use Rattle.refusal.proofs.Refusals.{kept_refused, kept_accepted}
+use Rattle.card_state.proofs.Taken.{reply_taken_lem}
 use Rattle.card.proofs.replies.reply.Goals as goal
 
 pub returns-then-refused-ne0 : goal.returns-then-refused-ne0
 returns-then-refused-ne0 c =
-    (c.reply_refusal-refused.ensures, sym (kept-refused _ _ _ c.if-refused-ne0.true), sym (kept-refused _ _ _ c.if-refused-ne0.true))
+    (c.reply_refusal-refused.ensures, sym (kept_refused _ _ _ c.if-refused-ne0.true), sym (kept_refused _ _ _ c.if-refused-ne0.true))
 
 pub write_reply-requires : goal.write_reply-requires
 write_reply-requires c =
-    let k = reply-taken _ _ _ (sym c.reply_refusal-refused.ensures ∙ c.if-refused-ne0.false) in (k.sizes, k.room)
+    let k = reply_taken_lem _ _ _ (sym c.reply_refusal-refused.ensures ∙ c.if-refused-ne0.false) in (k.sizes, k.room)
 
 pub returns : goal.returns
 returns c =
-    (sym c.if-refused-ne0.false ∙ c.reply_refusal-refused.ensures, c.replied_card.ensures ∙ sym (kept-accepted 0 _ _ refl), c.write_reply.ensures ∙ sym (kept-accepted 0 _ _ refl))
+    (sym c.if-refused-ne0.false ∙ c.reply_refusal-refused.ensures, c.replied_card.ensures ∙ sym (kept_accepted 0 _ _ refl), c.write_reply.ensures ∙ sym (kept_accepted 0 _ _ refl))

@@ -1,20 +1,20 @@
 -- By cases on the judgement and on the count. Assumes nothing.
 use mathlib.Core.Path.{sym}
 use borrow.Author.Tests.{lt-ltb, le-ltb}
-use Rattle.carrier_state.specs.Carrier.{judgedCarrier}
+use Rattle.carrier_state.specs.Carrier.{judged_carrier}
 use Rattle.carrier.proofs.calls.judged_carrier.Goals as goal
 
 pub returns-then-next-c : goal.returns-then-next-c
-unfolding judgedCarrier
+unfolding judged_carrier
 returns-then-next-c c =
     simp (c.if-accepted.true, sym c.next_count-next.ensures, lt-ltb _ _ c.if-next-c.true, c.carrier_with.ensures, c.no_turn-turn.ensures, c.held_commitments-none.ensures)
 
 pub returns-else-next-c : goal.returns-else-next-c
-unfolding judgedCarrier
+unfolding judged_carrier
 returns-else-next-c c =
     simp (c.if-accepted.true, sym c.next_count-next.ensures, le-ltb _ _ c.if-next-c.false, c.closed_carrier.ensures)
 
 pub returns-else-accepted : goal.returns-else-accepted
-unfolding judgedCarrier
+unfolding judged_carrier
 returns-else-accepted c =
     simp (c.if-accepted.false, c.closed_carrier-else-accepted.ensures)

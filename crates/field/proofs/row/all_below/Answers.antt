@@ -5,12 +5,12 @@ use mathlib.Core.Bool.{true}
 use mathlib.Core.List.{List, [], ◌∷◌}
 use native.Mathlib.Omega.{arith}
 use lib.ListN.{length}
-use Rattle.field.specs.Vector.{allBelow}
-use Rattle.field.proofs.Rows.{below-largest}
+use Rattle.field.specs.Vector.{all_below}
+use Rattle.field.proofs.Rows.{below_largest}
 use Rattle.field.proofs.row.all_below.Goals as goal
 
-empty : (q : ℕ) (s : List ℕ) → length s ≡ 0 → true ≡ allBelow q s
-unfolding allBelow
+empty : (q : ℕ) (s : List ℕ) → length s ≡ 0 → true ≡ all_below q s
+unfolding all_below
 empty q [] h = refl
 empty q (x ∷ s) h = absurd (omega arith)
 
@@ -20,4 +20,4 @@ returns-then-s-eq0 c =
 
 pub returns : goal.returns
 returns c =
-    rw c.largest_of.ensures (below-largest _ _ (omega arith))
+    rw c.largest_of.ensures (below_largest _ _ (omega arith))

@@ -2,7 +2,7 @@
 use mathlib.Core.Path.{refl}
 use native.Mathlib.Omega.{arith}
 use Rattle.field.specs.Row.{largest}
-use Rattle.field.proofs.Rows.{largest-step, largest-end}
+use Rattle.field.proofs.Rows.{largest_step, largest_end}
 use Rattle.field.proofs.row.largest_of.Goals as goal
 
 pub loop-i-init : goal.loop-i-init
@@ -13,9 +13,9 @@ loop-i-init c =
 pub loop-i-preserved : goal.loop-i-preserved
 unfolding largest
 loop-i-preserved c =
-    (omega arith, largest-step _ c.loop-i.i _ _ _ c.loop-i.invariant.1 (omega arith) refl c.larger-most.ensures)
+    (omega arith, largest_step _ c.loop-i.i _ _ _ c.loop-i.invariant.1 (omega arith) refl c.larger-most.ensures)
 
 pub returns : goal.returns
 unfolding largest
 returns c =
-    largest-end _ c.loop-i.i _ c.loop-i.invariant.1 (omega arith)
+    largest_end _ c.loop-i.i _ c.loop-i.invariant.1 (omega arith)

@@ -5,12 +5,12 @@ use lib.ListN.{get_or-replicate}
 use Rattle.field.specs.Ops.{ops}
 use Rattle.field.specs.Operation.{operation}
 use Rattle.slices.specs.Slices.{◌!◌}
-use Rattle.field.specs.Vector.{mulV}
-use Rattle.field.proofs.Vectors.{vector-cong}
+use Rattle.field.specs.Vector.{mul_v}
+use Rattle.field.proofs.Vectors.{vector_cong}
 use Rattle.field.proofs.vector.mul_vector.Goals as goal
 
 pub returns : goal.returns
-unfolding mulV operation
+unfolding mul_v operation
 returns c =
     c.each.ensures ∙
-    vector-cong _ _ _ (λ i h k. ap (λ (a : ℕ). (ops c.args.q).mul a (c.args.x ! i)) (get_or-replicate {A = ℕ} 96 i _ 0 k))
+    vector_cong _ _ _ (λ i h k. ap (λ (a : ℕ). (ops c.args.q).mul a (c.args.x ! i)) (get_or-replicate {A = ℕ} 96 i _ 0 k))

@@ -2,7 +2,7 @@
 use mathlib.Core.Path.{refl, ◌∙◌}
 use mathlib.Core.List.{[]}
 use native.Mathlib.Omega.{arith}
-use Rattle.slices.proofs.Parts.{placed-next, placed-all}
+use Rattle.slices.proofs.Parts.{placed_next, placed_all}
 use Rattle.record_form.specs.Record.{table}
 use Rattle.record_form.proofs.layout.table.Goals as goal
 
@@ -17,11 +17,11 @@ returns c =
     let three = c.put-3 in
     let k-long = k.ensures.1 in
     let m-long = m.ensures.1 in
-    let x-long = x.ensures.1 in
+    let x_long = x.ensures.1 in
     let one_kept = one.auto.out in
     let two-kept = two.auto.out in
     let three-kept = three.auto.out in
-    let first = placed-next [] _ _ one.new.out 0 8 refl (omega arith) (omega arith) one.ensures in
-    let second = placed-next _ _ one.new.out two.new.out 8 16 first (omega arith) (omega arith) two.ensures in
-    let third = placed-next _ _ two.new.out three.new.out 16 24 second (omega arith) (omega arith) three.ensures in
-    (placed-all _ three.new.out 24 third (omega arith) ∙ simp (k.ensures.0, m.ensures.0, x.ensures.0, c.laid_out-l.ensures.0), omega arith)
+    let first = placed_next [] _ _ one.new.out 0 8 refl (omega arith) (omega arith) one.ensures in
+    let second = placed_next _ _ one.new.out two.new.out 8 16 first (omega arith) (omega arith) two.ensures in
+    let third = placed_next _ _ two.new.out three.new.out 16 24 second (omega arith) (omega arith) three.ensures in
+    (placed_all _ three.new.out 24 third (omega arith) ∙ simp (k.ensures.0, m.ensures.0, x.ensures.0, c.laid_out-l.ensures.0), omega arith)

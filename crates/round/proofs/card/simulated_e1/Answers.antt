@@ -1,16 +1,16 @@
 -- By cases on the unanswered. Assumes nothing.
 use borrow.Author.Tests.{ne_eqb}
 use native.Mathlib.Omega.{arith}
-use Rattle.protocol.specs.Protocols.{simulatedE1, e1Of}
-use Rattle.protocol.specs.Rounds.{mapOf}
+use Rattle.protocol.specs.Protocols.{simulated_e1, e1_of}
+use Rattle.protocol.specs.Rounds.{map_of}
 use Rattle.round.proofs.card.simulated_e1.Goals as goal
 
 pub returns-in-0 : goal.returns-in-0
-unfolding simulatedE1 e1Of mapOf
+unfolding simulated_e1 e1_of map_of
 returns-in-0 c =
     simp (c.in-0.is, c.sub_vectors.ensures, c.add_vectors.ensures, c.f-in-0.ensures, c.sub_vectors-left.ensures, c.f.ensures, c.byte_at-m.ensures, c.byte_at-q.ensures)
 
 pub returns-in_default : goal.returns-in_default
-unfolding simulatedE1 e1Of mapOf
+unfolding simulated_e1 e1_of map_of
 returns-in_default c =
     simp (ne_eqb c.args.unanswered 0 (λ e. omega arith), c.sub_vectors-in_default.ensures, c.f-in_default.ensures, c.byte_at-m.ensures, c.byte_at-q.ensures)

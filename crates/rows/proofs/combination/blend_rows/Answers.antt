@@ -2,17 +2,17 @@
 use mathlib.Core.Path.{refl}
 use native.Mathlib.Omega.{arith}
 use lib.ListN.{length-set}
-use Rattle.slices.proofs.Tabulate.{fill-start, fill-step, fill-end}
+use Rattle.slices.proofs.Tabulate.{fill_start, fill_step, fill_end}
 use Rattle.rows.proofs.combination.blend_rows.Goals as goal
 
 pub loop-place-init : goal.loop-place-init
 loop-place-init c =
-    (fill-start _ _, omega arith, refl)
+    (fill_start _ _, omega arith, refl)
 
 pub loop-place-preserved : goal.loop-place-preserved
 loop-place-preserved c =
     let at = c.loop-place in
-    (fill-step _ _ _ at.place _ at.invariant.0 (omega arith) c.blend.ensures, omega arith, simp length-set at.invariant.2)
+    (fill_step _ _ _ at.place _ at.invariant.0 (omega arith) c.blend.ensures, omega arith, simp length-set at.invariant.2)
 
 pub shape_of-out : goal.shape_of-out
 shape_of-out c =
@@ -20,4 +20,4 @@ shape_of-out c =
 
 pub returns : goal.returns
 returns c =
-    fill-end _ _ _ c.loop-place.place c.loop-place.invariant.0 (omega arith)
+    fill_end _ _ _ c.loop-place.place c.loop-place.invariant.0 (omega arith)

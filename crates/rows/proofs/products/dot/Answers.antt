@@ -4,14 +4,14 @@ use mathlib.Core.Path.{ap, ◌∙◌}
 use lib.ListN.{length}
 use Rattle.field.specs.Ops.{modulus}
 use Rattle.field.specs.Row.{products}
-use Rattle.field.proofs.Modulus.{modulus-two}
+use Rattle.field.proofs.Modulus.{modulus_two}
 use Rattle.field.proofs.Rows.{products-sum}
 use Rattle.rows.proofs.products.dot.Goals as goal
 
 pub returns-then-q-eq2 : goal.returns-then-q-eq2
 returns-then-q-eq2 c =
     let a = c.args in
-    c.parity.ensures ∙ ap (λ (m : ℕ). products a.a.now a.b.now (length a.a.now) % m) (modulus-two a.q c.if-q-eq2.true) ∙ products-sum a.q _ _ _
+    c.parity.ensures ∙ ap (λ (m : ℕ). products a.a.now a.b.now (length a.a.now) % m) (modulus_two a.q c.if-q-eq2.true) ∙ products-sum a.q _ _ _
 
 pub returns-else-q-eq2 : goal.returns-else-q-eq2
 returns-else-q-eq2 c =

@@ -4,17 +4,17 @@ use mathlib.Core.Path.{◌≡◌, refl, ap, ◌∙◌}
 use native.Mathlib.Omega.{arith}
 use lib.ListN.{length}
 use Rattle.field.specs.Row.{products}
-use Rattle.field.proofs.Rows.{products-start}
-use Rattle.rows.proofs.Parity.{parity-step}
+use Rattle.field.proofs.Rows.{products_start}
+use Rattle.rows.proofs.Parity.{parity_step}
 use Rattle.rows.proofs.products.parity.Goals as goal
 
 pub loop-i-init : goal.loop-i-init
 loop-i-init c =
-    (omega arith, ap (λ (k : ℕ). k % 2) (products-start _ _))
+    (omega arith, ap (λ (k : ℕ). k % 2) (products_start _ _))
 
 pub loop-i-preserved : goal.loop-i-preserved
 loop-i-preserved c =
-    (omega arith, parity-step _ _ _ _ _ _ c.loop-i.invariant.1 refl refl)
+    (omega arith, parity_step _ _ _ _ _ _ c.loop-i.invariant.1 refl refl)
 
 pub returns : goal.returns
 returns c =

@@ -4,13 +4,13 @@ use native.Mathlib.Omega.{arith}
 use lib.ListN.{length-set}
 use Rattle.std.proofs.Common.{ℕ, ◌+◌, ◌*◌, slice_index_or}
 use Rattle.std.proofs.lemmas.List.Sums.{sum_by-set}
-use Rattle.field.proofs.Modulus.{byte-product}
-use Rattle.field.proofs.Rows.{products-start, products-step}
+use Rattle.field.proofs.Modulus.{byte_product}
+use Rattle.field.proofs.Rows.{products_start, products_step}
 use Rattle.rows.proofs.sums.add_products.Goals as goal
 
 pub loop-k-init : goal.loop-k-init
 loop-k-init c =
-    let none = products-start c.args.a.now c.args.b.now in
+    let none = products_start c.args.a.now c.args.b.now in
     (omega arith, c.requires.0, omega arith, omega (arith, none))
 
 pub loop-k-preserved : goal.loop-k-preserved
@@ -19,6 +19,6 @@ loop-k-preserved c =
     let product = c.wide.result * c.wide-in-loop-k.result in
     let old = slice_index_or at.sums at.k 0 in
     let more = sum_by-set (λ (x : ℕ). x) at.sums at.k (old + product) 0 (omega (arith, at.invariant.1)) in
-    let step = products-step c.args.a.now c.args.b.now at.k _ _ _ refl c.wide.ensures.0 c.wide-in-loop-k.ensures.0 in
-    let small = byte-product _ _ c.wide.ensures.1 c.wide-in-loop-k.ensures.1 in
+    let step = products_step c.args.a.now c.args.b.now at.k _ _ _ refl c.wide.ensures.0 c.wide-in-loop-k.ensures.0 in
+    let small = byte_product _ _ c.wide.ensures.1 c.wide-in-loop-k.ensures.1 in
     (omega arith, length-set _ _ _ ∙ at.invariant.1, omega (arith, more, small, at.invariant.2), omega (arith, more, step, at.invariant.3))

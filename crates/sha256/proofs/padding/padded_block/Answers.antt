@@ -6,13 +6,13 @@ use native.Mathlib.Omega.{arith}
 use lib.ListN.{get_or}
 use Rattle.slices.specs.Slices.{tabulate}
 use Rattle.sha256.specs.Padding.{pad, block}
-use Rattle.slices.proofs.Tabulate.{tabulate-of, fill_more, filled}
-use Rattle.sha256.proofs.PaddedMessage.{length-pad, blockCount-pad, length-block, block-at}
+use Rattle.slices.proofs.Tabulate.{tabulate_of, fill_more, filled}
+use Rattle.sha256.proofs.PaddedMessage.{length-pad, block_count-pad, length-block, block_at}
 use Rattle.sha256.proofs.padding.padded_block.Goals as goal
 
 pub overflow_mul-at : goal.overflow_mul-at
 overflow_mul-at c =
-    omega (arith, blockCount-pad c.args.message.now)
+    omega (arith, block_count-pad c.args.message.now)
 
 pub loop-j-init : goal.loop-j-init
 unfolding tabulate
@@ -21,11 +21,11 @@ loop-j-init c =
 
 pub overflow_add-at : goal.overflow_add-at
 overflow_add-at c =
-    omega (arith, blockCount-pad c.args.message.now)
+    omega (arith, block_count-pad c.args.message.now)
 
 pub padded_byte-requires : goal.padded_byte-requires
 padded_byte-requires c =
-    let m = c.args.message.now in omega (arith, blockCount-pad m, length-pad m)
+    let m = c.args.message.now in omega (arith, block_count-pad m, length-pad m)
 
 pub loop-j-preserved : goal.loop-j-preserved
 loop-j-preserved c =
@@ -38,4 +38,4 @@ returns c =
     let i = c.args.i in
     let f : ℕ → ℕ = λ k. get_or p (64 * i + k) 0 in
     filled f 64 c.loop-j.b c.loop-j.j c.loop-j-test.false c.loop-j.invariant
-    ∙ sym (tabulate-of (block p i) 64 f (length-block p i c.requires.1) (block-at p i c.requires.1))
+    ∙ sym (tabulate_of (block p i) 64 f (length-block p i c.requires.1) (block_at p i c.requires.1))

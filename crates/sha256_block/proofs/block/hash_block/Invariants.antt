@@ -2,14 +2,14 @@
 -- the working variables are those after t rounds.
 use Rattle.std.proofs.Common.{◌≡◌, ◌+◌, ◌-◌, ◌≤◌, length}
 use Rattle.sha256_block.specs.State.{variables}
-use Rattle.sha256_block.specs.Block.{wordsOf, schedule, rounds}
+use Rattle.sha256_block.specs.Block.{words_of, schedule, rounds}
 use Rattle.sha256_block.proofs.MessageSchedule.{Holds}
 use Rattle.sha256_block.proofs.block.hash_block.Given as goal
 
 abbrev pub invariant-loop-t : goal.invariant-loop-t
 invariant-loop-t l =
-    (l.t ≤ 64) × (length l.w ≡ 64) × Holds (schedule 48 (wordsOf l.block)) l.w (l.t + 16)
-    × (variables l.s ≡ rounds l.t (schedule 48 (wordsOf l.block)) (variables l.value))
+    (l.t ≤ 64) × (length l.w ≡ 64) × Holds (schedule 48 (words_of l.block)) l.w (l.t + 16)
+    × (variables l.s ≡ rounds l.t (schedule 48 (words_of l.block)) (variables l.value))
 
 abbrev pub decreases-loop-t : goal.decreases-loop-t
 decreases-loop-t l = 64 - l.t

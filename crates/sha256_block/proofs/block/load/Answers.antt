@@ -1,8 +1,8 @@
 -- `block::load` meets its contract. The loop's invariant: the first i words of the array are the block's.
 use Rattle.std.proofs.Common.{◌≡◌, refl, arith}
 use Rattle.slices.specs.Slices.{tabulate}
-use Rattle.sha256_block.specs.Bytes.{wordAt}
-use Rattle.sha256_block.specs.Block.{wordsOf}
+use Rattle.sha256_block.specs.Bytes.{word_at}
+use Rattle.sha256_block.specs.Block.{words_of}
 use Rattle.slices.proofs.Tabulate.{fill_more}
 use Rattle.sha256_block.proofs.block.load.Goals as goal
 
@@ -13,10 +13,10 @@ loop-i-init c =
 
 pub loop-i-preserved : goal.loop-i-preserved
 loop-i-preserved c =
-    fill_more (wordAt c.args.block.now) 16 64 c.loop-i.w c.loop-i.i c.word_at.result (omega arith) c.loop-i-test.true c.loop-i.invariant c.word_at.ensures
+    fill_more (word_at c.args.block.now) 16 64 c.loop-i.w c.loop-i.i c.word_at.result (omega arith) c.loop-i-test.true c.loop-i.invariant c.word_at.ensures
 
 pub returns : goal.returns
-unfolding wordsOf
+unfolding words_of
 returns c =
-    let at-end : c.loop-i.i ≡ 16 = omega arith in
-    (c.loop-i.invariant.1, rw at-end at c.loop-i.invariant.2)
+    let at_end : c.loop-i.i ≡ 16 = omega arith in
+    (c.loop-i.invariant.1, rw at_end at c.loop-i.invariant.2)

@@ -4,14 +4,14 @@ use mathlib.Core.Path.{◌≡◌, ap, ◌∙◌}
 use mathlib.Core.List.{List}
 use native.Mathlib.Omega.{arith}
 use lib.ListN.{take, drop}
-use Rattle.field.specs.Vector.{allBelow}
+use Rattle.field.specs.Vector.{all_below}
 use Rattle.system.proofs.layout.coefficients_below.Goals as goal
 
 -- a slice from 3 to 3 + k has k bytes
-cut : (q k : ℕ) (b : List ℕ) → allBelow q (take (3 + k - 3) b) ≡ allBelow q (take k b)
+cut : (q k : ℕ) (b : List ℕ) → all_below q (take (3 + k - 3) b) ≡ all_below q (take k b)
 cut q k b =
     let same : 3 + k - 3 ≡ k = omega arith in
-    ap (λ j. allBelow q (take j b)) same
+    ap (λ j. all_below q (take j b)) same
 
 pub returns : goal.returns
 returns c =
