@@ -8,7 +8,8 @@ ghost use Rattle.std.specs.Prelude.{◌≡◌};
 ghost use Rattle.system.specs.System.{system_refusal};
 ghost use Rattle.refusal.specs.Refusal.{◌or_else◌};
 ghost use Rattle.transcript.specs.Transcript.{fit_refusal};
-ghost use Rattle.comparable.specs.Comparable.{audited_refusal, difference_refusal, of_fourth, comparable_refusal, rejected_round, later_rejection, rejection_of};
+ghost use Rattle.comparable.specs.Comparable.{audited_refusal, difference_refusal, of_fourth, comparable_refusal};
+ghost use Rattle.comparable.specs.Comparable.{rejected_round, later_rejection, rejection_of};
 
 use record::{Reading, body_of, header_of, read, refusal_of};
 use record_form::laid_out;
