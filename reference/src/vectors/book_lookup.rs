@@ -1,9 +1,11 @@
 //! Cases for the lookup in a book: document 02, "Paper 2" and the order of its refusals.
 
 use super::book_reading::{
-    every_order, fillers, labels_of_letters, with_faults, FAULTS, LARGE_COUNTS,
+    every_order, faults, fillers, labels_of_letters, EQUAL_LABEL, LARGE_COUNTS, LEAST_LABEL,
 };
-use super::books::{all_halves, group, label_at, place_of, with_half, Book, LabelBytes};
+use super::books::{
+    all_halves, group, label_at, place_of, with_faults, with_half, Book, LabelBytes,
+};
 use super::case::{Call, Group};
 use super::instance::Shape;
 use super::piece::Piece;
@@ -25,6 +27,7 @@ pub fn groups() -> Vec<Group> {
         ("every byte changed", every_byte()),
         ("every truncation", every_length()),
         ("several faults", several_faults()),
+        ("faults that may undo each other", undoing_faults()),
     ];
     let groups = topics.map(|(topic, cases)| group("lookup", topic, cases));
     groups.into()
@@ -245,14 +248,23 @@ fn labels_in_order() -> [Vec<u8>; 5] {
     ]
 }
 
-/// Each fault of the small book with each label.
+/// The small book and what each fault makes of it, with each label.
 fn several_faults() -> Vec<Call> {
+    let good = Book::small().bytes();
+    let spoiled = faults(EQUAL_LABEL).map(|fault| with_faults(&good, &[fault]));
+    with_each_label(&[&[good][..], &spoiled].concat())
+}
+
+/// The small book with its second label below every other, with each label.
+fn undoing_faults() -> Vec<Call> {
+    with_each_label(&[with_faults(&Book::small().bytes(), &[LEAST_LABEL])])
+}
+
+fn with_each_label(books: &[Vec<u8>]) -> Vec<Call> {
     let mut calls = Vec::new();
     for label in labels_in_order() {
-        calls.push(look_up(&Book::small().piece(), &label));
-        for fault in FAULTS {
-            calls.push(look_up(&Piece::literal(&with_faults(&[fault])), &label));
-        }
+        let books = books.iter().map(|bytes| Piece::literal(bytes));
+        calls.extend(books.map(|book| look_up(&book, &label)));
     }
     calls
 }

@@ -1,6 +1,8 @@
 //! Cases for the reader of books: document 02, "Paper 2" and the order of its refusals.
 
-use super::books::{all_halves, group, with_half, Book, LabelBytes};
+use super::books::{
+    all_halves, alone_and_in_pairs, group, not_among, with_half, Book, Fault, LabelBytes,
+};
 use super::case::{Call, Group};
 use super::instance::Shape;
 use super::piece::Piece;
@@ -51,7 +53,11 @@ pub fn groups() -> Vec<Group> {
         ("F after 9", pieces(&fillers())),
         ("edges of each key", pieces(&key_edges())),
         ("faults of two entries", pieces(&entry_faults())),
-        ("several faults", several_faults()),
+        ("several faults", literals(&several_faults())),
+        (
+            "faults that may undo each other",
+            literals(&undoing_faults()),
+        ),
         ("last of 2,000 cards at fault", pieces(&large_faults())),
         ("length and table of 2,000 cards", large_tables()),
     ];
@@ -64,6 +70,10 @@ pub fn groups() -> Vec<Group> {
 
 fn pieces(books: &[Book]) -> Vec<Piece> {
     books.iter().map(Book::piece).collect()
+}
+
+fn literals(books: &[Vec<u8>]) -> Vec<Piece> {
+    books.iter().map(|bytes| Piece::literal(bytes)).collect()
 }
 
 // Books that the writer has too.
@@ -357,8 +367,7 @@ fn offsets() -> Vec<Piece> {
             pieces.extend(others.map(|other| Piece::literal(&good).patched(place, other)));
         }
     }
-    let tables = [other_tables(&good), gaps(&good)].concat();
-    pieces.extend(tables.iter().map(|bytes| Piece::literal(bytes)));
+    pieces.extend(literals(&[other_tables(&good), gaps(&good)].concat()));
     pieces
 }
 
@@ -424,47 +433,47 @@ fn large_tables() -> Vec<Piece> {
 }
 
 /// A fault of a book's bytes.
-pub type Fault = fn(&mut Vec<u8>);
+type BytesFault = Fault<Vec<u8>>;
 
-/// The faults of the small book, those that are looked at first before the others.
-pub const FAULTS: [Fault; 18] = [
-    |book| book.clear(),
-    |book| book.truncate(6),
-    |book| book[..4].copy_from_slice(&[0xd1, 7, 0, 0]),
-    |book| book[3] = 1,
-    |book| book[4] = 16,
-    |book| book[5] = 0,
-    |book| book[6] = 97,
-    |book| book.truncate(7),
-    |book| book.truncate(54),
-    |book| book.push(0),
-    |book| book[offset_place(0)] += 1,
-    |book| book[offset_place(2) + 3] = 1,
-    |book| book[HEAD] = 0xa8,
-    |book| book.copy_within(HEAD..HEAD + LABEL, HEAD + ENTRY),
-    |book| book[HEAD + 2 * ENTRY + 9] = 0xb0,
-    |book| book[HEAD + 2 * ENTRY] = 0x88,
-    |book| book[HEAD + 3 * ENTRY] = 7,
-    |book| book[HEAD + 3 * ENTRY + 5] = 255,
-];
+/// The second label equal to the first.
+pub const EQUAL_LABEL: BytesFault = |book| book.copy_within(HEAD..HEAD + LABEL, HEAD + ENTRY);
 
-/// The small book with faults, the first of them made last. No two cancel each other.
-pub fn with_faults(faults: &[Fault]) -> Vec<u8> {
-    let mut book = Book::small().bytes();
-    for fault in faults.iter().rev() {
-        fault(&mut book);
-    }
-    book
+/// The second label below every other, so that none after it is below it.
+pub const LEAST_LABEL: BytesFault = |book| book[HEAD + ENTRY] = 0;
+
+/// The faults of the small book, those that are looked at first before the others. The second label's
+/// is one of the two above.
+pub fn faults(second_label: BytesFault) -> [BytesFault; 18] {
+    [
+        |book| book.clear(),
+        |book| book.truncate(6),
+        |book| book[..4].copy_from_slice(&[0xd1, 7, 0, 0]),
+        |book| book[3] = 1,
+        |book| book[4] = 16,
+        |book| book[5] = 0,
+        |book| book[6] = 97,
+        |book| book.truncate(7),
+        |book| book.truncate(54),
+        |book| book.push(0),
+        |book| book[offset_place(0)] += 1,
+        |book| book[offset_place(2) + 3] = 1,
+        |book| book[HEAD] = 0xa8,
+        second_label,
+        |book| book[HEAD + 2 * ENTRY + 9] = 0xb0,
+        |book| book[HEAD + 2 * ENTRY] = 0x88,
+        |book| book[HEAD + 3 * ENTRY] = 7,
+        |book| book[HEAD + 3 * ENTRY + 5] = 255,
+    ]
 }
 
-/// Each fault alone and in pairs.
-fn several_faults() -> Vec<Piece> {
-    let mut pieces = Vec::new();
-    for (i, &fault) in FAULTS.iter().enumerate() {
-        pieces.push(Piece::literal(&with_faults(&[fault])));
-        for &other in &FAULTS[i + 1..] {
-            pieces.push(Piece::literal(&with_faults(&[fault, other])));
-        }
-    }
-    pieces
+/// Each fault alone and in pairs. No two cancel each other.
+fn several_faults() -> Vec<Vec<u8>> {
+    alone_and_in_pairs(&Book::small().bytes(), &faults(EQUAL_LABEL))
+}
+
+/// What else there is with the least label: the second label's fault undoes the third's, which is to
+/// be below it.
+fn undoing_faults() -> Vec<Vec<u8>> {
+    let books = alone_and_in_pairs(&Book::small().bytes(), &faults(LEAST_LABEL));
+    not_among(&several_faults(), books)
 }

@@ -1,7 +1,7 @@
 //! Cases for the writer of books: document 02, "Paper 2" and the order of its refusals.
 
 use super::book_reading::{self, labels_of_letters, of_ones, spoiled, LARGE_COUNTS, VALUES};
-use super::books::{all_halves, group, Book};
+use super::books::{all_halves, alone_and_in_pairs, group, not_among, Book, Fault, LabelBytes};
 use super::case::{Answer, Call, Group, FILL};
 use super::instance::Shape;
 use super::piece::Piece;
@@ -88,6 +88,7 @@ pub fn groups() -> Vec<Group> {
             of_books(&book_reading::entry_faults()),
         ),
         ("several faults", several_faults()),
+        ("faults that may undo each other", undoing_faults()),
         (
             "last of 2,000 cards at fault",
             of_books(&book_reading::large_faults()),
@@ -195,36 +196,53 @@ fn wrong_halves() -> Vec<Book> {
         .collect()
 }
 
-/// Each fault alone and in pairs, in the small book's writing. No two cancel each other: an output that
-/// is a byte too short and two too long is one too long.
+/// Faults of the small book's writing, those that are looked at first before the others. Those of an
+/// output that is too long and of the second label are given.
+fn faults(
+    long_output: Fault<BookWriting>,
+    second_label: Fault<BookWriting>,
+) -> [Fault<BookWriting>; 15] {
+    [
+        |w| w.count += 1_998,
+        |w| w.count += 65_536,
+        |w| w.numbers[0] = 16,
+        |w| w.numbers[1] = 97,
+        |w| w.numbers[2] = 0,
+        |w| w.labels = of_length(&w.labels, 29),
+        |w| w.keys = of_length(&w.keys, 7),
+        |w| w.out -= 1,
+        long_output,
+        |w| overwrite_label(w, 0, spoiled(Book::small().labels[0])),
+        second_label,
+        |w| w.labels = w.labels.clone().patched(2 * LABEL + 3, 0xc0),
+        |w| w.labels = w.labels.clone().patched(2 * LABEL, 0x88),
+        |w| w.keys = w.keys.clone().patched(0, 7),
+        |w| w.keys = w.keys.clone().patched(5, 255),
+    ]
+}
+
+/// Puts another label in the place of a card's.
+fn overwrite_label(writing: &mut BookWriting, card: usize, label: LabelBytes) {
+    writing.labels = writing.labels.clone().overwritten(card * LABEL, &label);
+}
+
+/// Each fault alone and in pairs. No two cancel each other: an output that is a byte too short and two
+/// too long is one too long.
 fn several_faults() -> Vec<BookWriting> {
-    let book = Book::small();
-    let good = BookWriting::of(&book);
-    let first = book.labels[0];
-    let wrong = spoiled(first);
-    let faults: [&dyn Fn(&mut BookWriting); 15] = [
-        &|w| w.count += 1_998,
-        &|w| w.count += 65_536,
-        &|w| w.numbers[0] = 16,
-        &|w| w.numbers[1] = 97,
-        &|w| w.numbers[2] = 0,
-        &|w| w.labels = of_length(&w.labels, 29),
-        &|w| w.keys = of_length(&w.keys, 7),
-        &|w| w.out -= 1,
-        &|w| w.out += 2,
-        &|w| w.labels = w.labels.clone().overwritten(0, &wrong),
-        &|w| w.labels = w.labels.clone().overwritten(LABEL, &first),
-        &|w| w.labels = w.labels.clone().patched(2 * LABEL + 3, 0xc0),
-        &|w| w.labels = w.labels.clone().patched(2 * LABEL, 0x88),
-        &|w| w.keys = w.keys.clone().patched(0, 7),
-        &|w| w.keys = w.keys.clone().patched(5, 255),
-    ];
-    let mut writings = Vec::new();
-    for (i, fault) in faults.iter().enumerate() {
-        writings.push(good.changed(fault));
-        for other in &faults[i + 1..] {
-            writings.push(good.changed(other).changed(fault));
-        }
-    }
-    writings
+    let faults = faults(
+        |w| w.out += 2,
+        |w| overwrite_label(w, 1, Book::small().labels[0]),
+    );
+    alone_and_in_pairs(&BookWriting::of(&Book::small()), &faults)
+}
+
+/// What else there is with an output that is one byte too long, which one that is too short undoes,
+/// and with a second label below every other, so that the third can't be below it.
+fn undoing_faults() -> Vec<BookWriting> {
+    let faults = faults(
+        |w| w.out += 1,
+        |w| w.labels = w.labels.clone().patched(LABEL, 0),
+    );
+    let writings = alone_and_in_pairs(&BookWriting::of(&Book::small()), &faults);
+    not_among(&several_faults(), writings)
 }

@@ -173,6 +173,35 @@ pub fn random_labels(random: &mut Generator, count: usize) -> Vec<LabelBytes> {
     labels.collect()
 }
 
+/// A fault of what a call is given.
+pub type Fault<T> = fn(&mut T);
+
+/// Something good with faults, the first of them made last.
+pub fn with_faults<T: Clone>(good: &T, faults: &[Fault<T>]) -> T {
+    let mut spoiled = good.clone();
+    for fault in faults.iter().rev() {
+        fault(&mut spoiled);
+    }
+    spoiled
+}
+
+/// Something good with each fault alone and in pairs.
+pub fn alone_and_in_pairs<T: Clone>(good: &T, faults: &[Fault<T>]) -> Vec<T> {
+    let mut spoiled = Vec::new();
+    for (i, &fault) in faults.iter().enumerate() {
+        spoiled.push(with_faults(good, &[fault]));
+        let others = faults[i + 1..].iter();
+        spoiled.extend(others.map(|&other| with_faults(good, &[fault, other])));
+    }
+    spoiled
+}
+
+/// All but those that are among the others.
+pub fn not_among<T: PartialEq>(others: &[T], mut all: Vec<T>) -> Vec<T> {
+    all.retain(|one| !others.contains(one));
+    all
+}
+
 /// A group of a call's cases.
 pub fn group(call: &str, topic: &str, cases: Vec<Call>) -> Group {
     let name = format!("book {call}, {topic}");

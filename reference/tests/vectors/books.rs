@@ -193,6 +193,26 @@ fn several_faults() {
     }
 }
 
+/// With a second label below every other each book is refused, with the number of the first fault. So is
+/// each writing with such a label or an output that is a byte too long, but for a byte too short besides.
+#[test]
+fn faults_that_may_undo_each_other() {
+    let of_call = |call: &str| named(&format!("book {call}, faults that may undo each other"));
+    let numbers = |cases: &[Case]| -> Vec<u8> { cases.iter().map(|case| case.number).collect() };
+    let [read, written, looked_up] = ["read", "write", "lookup"].map(of_call);
+    let before = [6, 6, 1, 1, 1, 6, 6, 6, 6, 12];
+    assert_eq!(numbers(&read), [&before[..], &[13; 5]].concat());
+    assert_eq!(numbers(&looked_up), [13; 5]);
+    for case in read.iter().chain(&looked_up) {
+        assert_eq!(case.inputs[0][21], 0);
+    }
+    let before = [&[6; 4][..], &[1; 6], &[2; 4], &[0], &[2; 7], &[12]];
+    assert_eq!(numbers(&written), [&before.concat()[..], &[13; 5]].concat());
+    for case in written.iter().filter(|case| case.number != 0) {
+        assert!(case.inputs[2][10] == 0 || case.expected[0].len() == 56);
+    }
+}
+
 /// Each card is looked up at every length of the small book, and found in the whole book alone.
 #[test]
 fn every_truncation() {
