@@ -1,5 +1,6 @@
 -- One branch: what is refused stays, else both outputs are written. Assumes nothing.
-use mathlib.Core.Path.{sym, ◌∙◌}
+use mathlib.Core.Path.{◌≡◌, sym, ◌∙◌}
+use native.Mathlib.Omega.{arith}
 use Rattle.refusal.specs.Refusal.{kept}
 use Rattle.refusal.proofs.Refusals.{kept_refused}
 use Rattle.system.proofs.SystemLayout.{accepted}
@@ -10,7 +11,8 @@ use Rattle.simulator.proofs.simulate.Goals as goal
 pub returns-then-refused-ne0 : goal.returns-then-refused-ne0
 unfolding kept
 returns-then-refused-ne0 c =
-    (c.simulate_refusal-refused.ensures, sym (kept_refused _ _ _ c.if-refused-ne0.true), sym (kept_refused _ _ _ c.if-refused-ne0.true))
+    let some : c.simulate_refusal-refused.result ≡ 0 → ⊥ = λ none. omega (arith, c.if-refused-ne0.true, none) in
+    (c.simulate_refusal-refused.ensures, sym (kept_refused _ _ _ some), sym (kept_refused _ _ _ some))
 
 pub vectors_from-w-requires : goal.vectors_from-w-requires
 vectors_from-w-requires c =

@@ -1,5 +1,6 @@
 -- What is refused stays, else t1 and e1 are written. Assumes nothing.
-use mathlib.Core.Path.{sym, ◌∙◌}
+use mathlib.Core.Path.{◌≡◌, sym, ◌∙◌}
+use native.Mathlib.Omega.{arith}
 use Rattle.refusal.specs.Refusal.{kept}
 use Rattle.refusal.proofs.Refusals.{kept_refused}
 use Rattle.system.proofs.SystemLayout.{accepted, has_sizes_lem}
@@ -11,7 +12,8 @@ use Rattle.card.proofs.alpha.answer_alpha.Goals as goal
 pub returns-then-refused-ne0 : goal.returns-then-refused-ne0
 unfolding answered_card sent_middle middle_bytes kept
 returns-then-refused-ne0 c =
-    (c.alpha_refusal-refused.ensures, sym (kept_refused _ _ _ c.if-refused-ne0.true), sym (kept_refused _ _ _ c.if-refused-ne0.true))
+    let some : c.alpha_refusal-refused.result ≡ 0 → ⊥ = λ none. omega (arith, c.if-refused-ne0.true, none) in
+    (c.alpha_refusal-refused.ensures, sym (kept_refused _ _ _ some), sym (kept_refused _ _ _ some))
 
 pub middle-sent-requires : goal.middle-sent-requires
 unfolding answered_card sent_middle middle_bytes kept

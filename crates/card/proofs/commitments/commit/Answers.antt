@@ -1,5 +1,6 @@
 -- What is refused stays, else the commitments of the scheme are written. Assumes nothing.
-use mathlib.Core.Path.{refl, sym, ap, ◌∙◌}
+use mathlib.Core.Path.{◌≡◌, refl, sym, ap, ◌∙◌}
+use native.Mathlib.Omega.{arith}
 use Rattle.refusal.proofs.Refusals.{kept_refused, kept_accepted}
 use Rattle.scheme.specs.Scheme.{commitments_length}
 use Rattle.card_state.proofs.Taken.{commit_taken}
@@ -7,7 +8,8 @@ use Rattle.card.proofs.commitments.commit.Goals as goal
 
 pub returns-then-refused-ne0 : goal.returns-then-refused-ne0
 returns-then-refused-ne0 c =
-    (c.commit_refusal-refused.ensures, sym (kept_refused _ _ _ c.if-refused-ne0.true), sym (kept_refused _ _ _ c.if-refused-ne0.true))
+    let some : c.commit_refusal-refused.result ≡ 0 → ⊥ = λ none. omega (arith, c.if-refused-ne0.true, none) in
+    (c.commit_refusal-refused.ensures, sym (kept_refused _ _ _ some), sym (kept_refused _ _ _ some))
 
 pub commit_three-committed-requires : goal.commit_three-committed-requires
 commit_three-committed-requires c =

@@ -1,12 +1,14 @@
 -- What is refused stays, else the reply is written and the round forgotten. Assumes nothing.
-use mathlib.Core.Path.{refl, sym, ◌∙◌}
+use mathlib.Core.Path.{◌≡◌, refl, sym, ◌∙◌}
+use native.Mathlib.Omega.{arith}
 use Rattle.refusal.proofs.Refusals.{kept_refused, kept_accepted}
 use Rattle.card_state.proofs.Taken.{reply_taken_lem}
 use Rattle.card.proofs.replies.reply.Goals as goal
 
 pub returns-then-refused-ne0 : goal.returns-then-refused-ne0
 returns-then-refused-ne0 c =
-    (c.reply_refusal-refused.ensures, sym (kept_refused _ _ _ c.if-refused-ne0.true), sym (kept_refused _ _ _ c.if-refused-ne0.true))
+    let some : c.reply_refusal-refused.result ≡ 0 → ⊥ = λ none. omega (arith, c.if-refused-ne0.true, none) in
+    (c.reply_refusal-refused.ensures, sym (kept_refused _ _ _ some), sym (kept_refused _ _ _ some))
 
 pub write_reply-requires : goal.write_reply-requires
 write_reply-requires c =
