@@ -22,7 +22,7 @@ const WITH_THREE: usize = 5;
 const WITH_FOUR: usize = 6;
 
 // Said where an argument can't be taken.
-const MISSING: &str = "audit: argument";
+const MISSING: &[u8] = b"audit: argument";
 
 fn main(rt: HostRuntime) {
     let mut text = text_buffer();

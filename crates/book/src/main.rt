@@ -54,7 +54,7 @@ fn usage<R: Eprint>(rt: &R) -> usize {
 // Reads the book and shows all of it, or one card where there is an ICCID.
 fn shown<R: Env + Files + Eprint>(rt: &R, words: usize, text: &mut [u8; 428064]) -> usize {
     let mut buffer = book_buffer();
-    let Loaded::Read(length) = load_front(rt, 1, "book: argument", &mut buffer) else {
+    let Loaded::Read(length) = load_front(rt, 1, b"book: argument", &mut buffer) else {
         return 0;
     };
     let book = part(&buffer, 0, length);

@@ -111,7 +111,7 @@ fn store<R: Env + Eprint + Files>(rt: &R, bytes: &[u8], number: usize) {
         return;
     }
     let mut room = [0u8; 4096];
-    if let Some(path) = path_named(rt, number, "demo: argument", &mut room) {
+    if let Some(path) = path_named(rt, number, b"demo: argument", &mut room) {
         store_as(rt, path, bytes);
     }
 }

@@ -53,8 +53,13 @@ pub fn has_word<R: Env>(rt: &R, i: usize) -> bool {
 }
 
 // Reads the file that argument i names. It has to leave a byte of the buffer, or it is too large. `missing` is said where there is
-// no such argument.
-pub fn load<R: Env + Files + Eprint>(rt: &R, i: usize, missing: &str, buffer: &mut [u8]) -> Loaded {
+// no such argument, what is not ASCII in it escaped.
+pub fn load<R: Env + Files + Eprint>(
+    rt: &R,
+    i: usize,
+    missing: &[u8],
+    buffer: &mut [u8],
+) -> Loaded {
     load_named(rt, i, missing, false, buffer)
 }
 
@@ -62,7 +67,7 @@ pub fn load<R: Env + Files + Eprint>(rt: &R, i: usize, missing: &str, buffer: &m
 pub fn load_front<R: Env + Files + Eprint>(
     rt: &R,
     i: usize,
-    missing: &str,
+    missing: &[u8],
     buffer: &mut [u8],
 ) -> Loaded {
     load_named(rt, i, missing, true, buffer)
@@ -71,7 +76,7 @@ pub fn load_front<R: Env + Files + Eprint>(
 fn load_named<R: Env + Files + Eprint>(
     rt: &R,
     i: usize,
-    missing: &str,
+    missing: &[u8],
     front: bool,
     buffer: &mut [u8],
 ) -> Loaded {
@@ -86,23 +91,23 @@ fn load_named<R: Env + Files + Eprint>(
 pub fn path_named<'a, R: Env + Eprint>(
     rt: &R,
     i: usize,
-    missing: &str,
+    missing: &[u8],
     room: &'a mut [u8],
 ) -> Option<&'a str> {
     match rt.arg(i, room) {
         Ok(length) => match str::from_utf8(&room[..length]) {
             Ok(path) => Some(path),
             Err(error) => {
-                let _ = eprintln!(rt; "{missing}: {error}");
+                let _ = eprintln!(rt; "{}: {error}", missing.escape_ascii());
                 None
             }
         },
         Err(FillError::NotPresent) => {
-            let _ = eprintln!(rt; "{missing}: Invalid argument");
+            let _ = eprintln!(rt; "{}: Invalid argument", missing.escape_ascii());
             None
         }
         Err(FillError::TooLong) => {
-            let _ = eprintln!(rt; "{missing}: File name too long");
+            let _ = eprintln!(rt; "{}: File name too long", missing.escape_ascii());
             None
         }
     }
