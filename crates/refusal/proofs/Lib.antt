@@ -2,3 +2,4 @@
 pub mod Refusals
 pub mod Chains
 pub mod Search
+pub mod Answers

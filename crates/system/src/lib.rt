@@ -4,6 +4,8 @@
 // outside its values, 2 for a wrong length, 3 for a byte that is no element: the first that applies.
 #![tactic(auto)]
 
+mod checked;
 mod layout;
 
+pub use checked::System;
 pub use layout::{are_sizes, check, check_against, has_sizes, system_length, width};

@@ -1,0 +1,37 @@
+-- Chains of answers that end at the first refusal. Assumes nothing.
+use Rattle.std.specs.Prelude.{ℕ, Result, Ok, Err}
+use mathlib.Core.Path.{◌≡◌, refl, sym, ◌∙◌}
+use Rattle.refusal.specs.declared.Refusal.{Refusal}
+use Rattle.refusal.specs.declared.Refusal.TheVariants.{Value, Length, Element, Challenge, Secret, Form, Mismatch, Rejected, NoFullSet, NotDue, Closed, LabelHalf, LabelOrder}
+use Rattle.refusal.specs.Refusal.{number, number_of, ◌or_else◌}
+use Rattle.refusal.proofs.Refusals.{later_decides}
+
+-- a refusal has a number of its own, so it decides
+pub refusal_decides : (refusal : Refusal) (rest : ℕ) → (number refusal or_else rest) ≡ number refusal
+unfolding ◌or_else◌
+refusal_decides Value rest = refl
+refusal_decides Length rest = refl
+refusal_decides Element rest = refl
+refusal_decides Challenge rest = refl
+refusal_decides Secret rest = refl
+refusal_decides Form rest = refl
+refusal_decides Mismatch rest = refl
+refusal_decides Rejected rest = refl
+refusal_decides NoFullSet rest = refl
+refusal_decides NotDue rest = refl
+refusal_decides Closed rest = refl
+refusal_decides LabelHalf rest = refl
+refusal_decides LabelOrder rest = refl
+
+-- none is 0, so what follows decides
+pub none_decides : (rest : ℕ) → (0 or_else rest) ≡ rest
+none_decides rest = later_decides 0 rest refl
+
+-- a call that refuses ends the chain, and what is handed on is its refusal
+pub ends_chain : {A : Type 0} (answer : Result A Refusal) (refusal : Refusal) (here rest : ℕ) → answer ≡ Err refusal → number refusal ≡ here →
+    number_of answer ≡ (here or_else rest)
+ends_chain answer refusal here rest handed is = rw (handed, sym is) (sym (refusal_decides refusal rest))
+
+-- one that does not leaves it to the rest
+pub goes_on_chain : (answer here rest : ℕ) → 0 ≡ here → answer ≡ rest → answer ≡ (here or_else rest)
+goes_on_chain answer here rest none later = rw (sym none) (later ∙ sym (none_decides rest))
