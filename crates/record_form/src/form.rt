@@ -11,7 +11,7 @@ use slices::{byte_at, part};
 
 // What is looked for in an exchange: the first bad byte in file order, or bad elements alone, or a bad challenge alone.
 // An enum and no closure: the definitions that the contracts cite tell the three by name.
-#[derive(Clone, Copy)]
+#[derive(Clone, Copy, Debug, PartialEq, Eq)]
 pub enum Check {
     FileOrder,
     Elements,

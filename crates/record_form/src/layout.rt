@@ -8,7 +8,7 @@ use slices::{put, put_both, word};
 use system::are_sizes;
 
 // The values that stand behind the edition.
-#[derive(Clone, Copy)]
+#[derive(Clone, Copy, Debug, PartialEq, Eq)]
 pub struct Header {
     pub scheme: Scheme,
     pub q: u8,
@@ -89,7 +89,7 @@ impl Header {
 }
 
 // Where a body stands.
-#[derive(Clone, Copy)]
+#[derive(Clone, Copy, Debug, PartialEq, Eq)]
 pub struct Body {
     pub offset: usize,
     pub length: usize,
@@ -107,7 +107,7 @@ impl Body {
 }
 
 // The header, and where each body stands.
-#[derive(Clone, Copy)]
+#[derive(Clone, Copy, Debug, PartialEq, Eq)]
 pub struct Layout {
     pub edition: u8,
     pub header: Header,

@@ -7,7 +7,7 @@ use lib.ListN.{take, drop}
 use Rattle.std.specs.Prelude.{Result, Err}
 use Rattle.std.proofs.Common.{rules}
 use Rattle.refusal.specs.declared.Refusal.{Refusal}
-use Rattle.refusal.specs.Refusal.{number, number_of, first_of, ◌or_else◌}
+use Rattle.refusal.specs.Refusal.{number, number_of, first_of}
 use Rattle.refusal.proofs.Chains.{none_at_start, none_so_far, first_here}
 use Rattle.refusal.proofs.Answers.{refuses}
 use Rattle.record_form.specs.declared.layout.Header.{Header}
