@@ -42,3 +42,6 @@ ends_chain answer refusal here rest handed is = rw (handed, sym is) (sym (refusa
 -- one that does not leaves it to the rest
 pub goes_on_chain : (answer here rest : ℕ) → 0 ≡ here → answer ≡ rest → answer ≡ (here or_else rest)
 goes_on_chain answer here rest none later = rw (sym none) (later ∙ sym (none_decides rest))
+
+-- what a chain of answers needs
+pub ruleset chain = (refusal_decides, none_decides)

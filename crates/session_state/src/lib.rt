@@ -24,15 +24,16 @@ pub struct Answered<S, T> {
 }
 
 // A session's phase: which call is due, or that the session is closed.
-pub trait Phase: PartialEq + Drop {
+pub trait Phase: Drop {
     // The due call by number, 0 for a closed session.
     ghost number: { Self → ℕ };
 
     fn is_closed(&self) -> bool
         ensures { result ≡ eqb (number self.now) 0 };
 
-    // The phases in which a call is due are told apart as their numbers are.
-    ghost told_apart: { (phase due : Self) → (number phase ≡ 0 → ⊥) → Self.eq phase due ≡ eqb (number phase) (number due) };
+    // Whether this call is due; of a closed session it is not asked.
+    fn is(&self, due: &Self) -> bool
+        ensures { (number self.now ≡ 0 → ⊥) → result ≡ eqb (number self.now) (number due.now) };
 }
 
 // 11 for a closed session, 10 for a call that is not due.
@@ -43,7 +44,7 @@ pub fn require_due<P: Phase>(phase: P, due: P) -> Result<(), Refusal>
     if phase.is_closed() {
         return Err(Refusal::Closed);
     }
-    require(phase == due, Refusal::NotDue)
+    require(phase.is(&due), Refusal::NotDue)
 }
 
 // What is refused hands back the old session.
