@@ -9,6 +9,7 @@ use round::middle;
 use session_state::Answered;
 
 // Five passes: writes t1 and e1 for α to `out`.
+#[tactic(auto, using(refusal::proofs::Answers::chain, card_state::proofs::Taken::alpha_room), unfolding(card_state::specs::Card::answered_card, card_state::specs::Card::sent_middle, exchange::specs::Messages::middle_bytes))]
 pub fn answer_alpha(card: Card, system: &[u8], alpha: u8, out: &mut [u8]) -> Answered<Card, ()>
     ensures answer { number_of result.answer ≡ alpha_refusal card system.now alpha (length out.old) }
     ensures session { result.session ≡ kept (number_of result.answer) card (answered_card card) }
@@ -19,14 +20,11 @@ pub fn answer_alpha(card: Card, system: &[u8], alpha: u8, out: &mut [u8]) -> Ans
             let (r0, t0, e0, e1) = (card.r0, card.t0, card.e0, card.e1);
             let sent = middle(&system, alpha, r0, t0, e0);
             write_middle(sent, system.n(), system.m(), out);
-            Answered {
-                answer: Ok(()),
-                session: card_with(card, CardPhase::Reply, card.round, held_lent(card), e1),
-            }
+            Answered::done(
+                (),
+                card_with(card, CardPhase::Reply, card.round, held_lent(card), e1),
+            )
         }
-        Err(refusal) => Answered {
-            answer: Err(refusal),
-            session: card,
-        },
+        Err(refusal) => Answered::refused(refusal, card),
     }
 }

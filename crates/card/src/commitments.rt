@@ -23,10 +23,7 @@ fn commit_three(card: Card, system: &System, lent: &[u8], out: &mut [u8]) -> Car
     let (s, r0, t0, e0) = (card.s, l.r0, l.t0, l.e0);
     let w = card_three(system, s, r0, t0, e0);
     let e1 = w.e1;
-    write_three_commitments(
-        commitments_three(card_domain(card), n, m, w, l.rhos),
-        out,
-    );
+    write_three_commitments(commitments_three(card_domain(card), n, m, w, l.rhos), out);
     card_with(card, CardPhase::Reply, card.round, l, e1)
 }
 
@@ -46,6 +43,7 @@ fn commit_five(card: Card, system: &System, lent: &[u8], out: &mut [u8]) -> Card
 }
 
 // Writes the commitments of a round to `out`, from what is lent for it.
+#[tactic(auto, using(refusal::proofs::Answers::chain, card_state::proofs::Taken::commit_taken))]
 pub fn commit<'a>(
     card: Card,
     system: &'a [u8],
@@ -57,16 +55,13 @@ pub fn commit<'a>(
     ensures out { out.new ≡ kept (number_of result.answer) out.old (sent_commitments card system.now lent.now) }
 {
     match check_commit(card, system, lent, out.len()) {
-        Ok(system) => Answered {
-            answer: Ok(()),
-            session: match card.scheme {
+        Ok(system) => {
+            let committed = match card.scheme {
                 Scheme::ThreePass => commit_three(card, &system, lent, out),
                 Scheme::FivePass => commit_five(card, &system, lent, out),
-            },
-        },
-        Err(refusal) => Answered {
-            answer: Err(refusal),
-            session: card,
-        },
+            };
+            Answered::done((), committed)
+        }
+        Err(refusal) => Answered::refused(refusal, card),
     }
 }

@@ -10,7 +10,6 @@ use session_state::Answered;
 use system::System;
 
 // A session in its first round.
-#[tactic(auto, unfolding(card_state::specs::Card::opened_card))]
 fn opened_card(system: &System, scheme: u8, rounds: u8, s: &[u8]) -> Card
     ensures { result ≡ opened_card system.now.bytes.now scheme rounds s.now }
 {
@@ -33,7 +32,7 @@ fn opened_card(system: &System, scheme: u8, rounds: u8, s: &[u8]) -> Card
 }
 
 // Opens a session of so many rounds, for a card with the secret s and the key v = F(s).
-#[tactic(auto, unfolding(refusal::specs::Refusal::kept))]
+#[tactic(auto, using(refusal::proofs::Answers::chain))]
 pub fn open<'a>(
     system: &'a [u8],
     scheme: u8,
@@ -45,13 +44,7 @@ pub fn open<'a>(
     ensures session { result.session ≡ kept (number_of result.answer) closed_card (opened_card system.now scheme rounds s.now) }
 {
     match check_open(system, scheme, rounds, v, s) {
-        Ok(system) => Answered {
-            answer: Ok(()),
-            session: opened_card(&system, scheme, rounds, s),
-        },
-        Err(refusal) => Answered {
-            answer: Err(refusal),
-            session: closed_card(),
-        },
+        Ok(system) => Answered::done((), opened_card(&system, scheme, rounds, s)),
+        Err(refusal) => Answered::refused(refusal, closed_card()),
     }
 }

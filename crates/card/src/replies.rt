@@ -61,6 +61,7 @@ fn replied_card(card: Card) -> Card
 }
 
 // Writes the reply to a challenge to `out`, and forgets what was lent for the round.
+#[tactic(auto, using(refusal::proofs::Answers::chain, card_state::proofs::Taken::reply_taken_lem))]
 pub fn reply(card: Card, challenge: u8, out: &mut [u8]) -> Answered<Card, ()>
     ensures answer { number_of result.answer ≡ reply_refusal card challenge (length out.old) }
     ensures session { result.session ≡ kept (number_of result.answer) card (replied_card card) }
@@ -69,14 +70,8 @@ pub fn reply(card: Card, challenge: u8, out: &mut [u8]) -> Answered<Card, ()>
     match check_reply(card, challenge, out.len()) {
         Ok(()) => {
             write_reply(card, challenge, out);
-            Answered {
-                answer: Ok(()),
-                session: replied_card(card),
-            }
+            Answered::done((), replied_card(card))
         }
-        Err(refusal) => Answered {
-            answer: Err(refusal),
-            session: card,
-        },
+        Err(refusal) => Answered::refused(refusal, card),
     }
 }

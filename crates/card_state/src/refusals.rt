@@ -38,7 +38,7 @@ fn check_open_form<'a>(
 }
 
 // What `open` refuses: F(s) is formed only where nothing else is wrong.
-#[tactic(auto, using(refusal::proofs::Answers::chain), unfolding(crate::specs::Card::open_refusal))]
+#[tactic(auto, using(refusal::proofs::Answers::chain, slices::proofs::Sameness::pointwise_same), unfolding(crate::specs::Card::open_refusal))]
 pub fn check_open<'a>(
     system: &'a [u8],
     scheme: u8,
@@ -50,7 +50,7 @@ pub fn check_open<'a>(
     ensures system { IfOk result (λ good. good.bytes.now ≡ system.now) }
 {
     let system = check_open_form(system, scheme, rounds, v, s)?;
-    let image = f(system.bytes, from_slice(s));
+    let image = f(&system, from_slice(s));
     require(image == from_slice(v), Refusal::Secret)?;
     Ok(system)
 }
@@ -90,10 +90,11 @@ pub fn check_alpha(
     ensures system { IfOk result (λ good. good.bytes.now ≡ system.now) }
 {
     require_due(card.phase, CardPhase::AnswerAlpha)?;
-    let system = System::of_sizes(system, card.q, card.n, card.m)?;
-    let middle = usize::from(card.n) + usize::from(card.m);
+    let Card { q, n, m, .. } = card;
+    let system = System::of_sizes(system, q, n, m)?;
+    let middle = usize::from(n) + usize::from(m);
     require(out_len == middle, Refusal::Length)?;
-    require(alpha < card.q, Refusal::Element)?;
+    require(alpha < q, Refusal::Element)?;
     Ok(system)
 }
 

@@ -2,8 +2,8 @@
 // count of rounds.
 #![tactic(auto)]
 
-ghost use Rattle.std.specs.Prelude.{ℕ, ◌≡◌, eqb};
-ghost use Rattle.refusal.specs.Refusal.{number_of, kept};
+ghost use Rattle.std.specs.Prelude.{ℕ, ◌≡◌, eqb, Ok, Err};
+ghost use Rattle.refusal.specs.Refusal.{number_of};
 ghost use Rattle.session_state.specs.State.{state_refusal, next_count};
 
 use refusal::{Refusal, require};
@@ -47,14 +47,28 @@ pub fn require_due<P: Phase>(phase: P, due: P) -> Result<(), Refusal>
     require(phase.is(&due), Refusal::NotDue)
 }
 
-// What is refused hands back the old session.
-#[tactic(auto, unfolding(refusal::specs::Refusal::kept))]
-pub fn hand_back<S: Drop>(answer: Result<(), Refusal>, old: S, new: S) -> Answered<S, ()>
-    ensures answer { result.answer ≡ answer }
-    ensures session { result.session ≡ kept (number_of answer) old new }
-{
-    let session = if answer.is_ok() { new } else { old };
-    Answered { answer, session }
+impl<S: Drop, T: Drop> Answered<S, T> {
+    // A call that is not refused.
+    pub fn done(value: T, session: S) -> Answered<S, T>
+        ensures answer { result.answer ≡ Ok value }
+        ensures session { result.session ≡ session }
+    {
+        Answered {
+            answer: Ok(value),
+            session,
+        }
+    }
+
+    // One that is.
+    pub fn refused(refusal: Refusal, session: S) -> Answered<S, T>
+        ensures answer { result.answer ≡ Err refusal }
+        ensures session { result.session ≡ session }
+    {
+        Answered {
+            answer: Err(refusal),
+            session,
+        }
+    }
 }
 
 // One round more; a byte tells no more than 255.
