@@ -47,7 +47,7 @@ fn table_matches(bytes: &[u8], h: Header) -> bool
 }
 
 // Reads a record: any bytes.
-#[tactic(auto, using(refusal::proofs::Answers::refusal_decides, refusal::proofs::Answers::none_decides), unfolding(crate::specs::Reader::record_refusal, record_form::specs::Record::fields_in))]
+#[tactic(auto, using(refusal::proofs::Answers::chain), unfolding(crate::specs::Reader::record_refusal, record_form::specs::Record::fields_in))]
 pub fn read(bytes: &[u8]) -> Result<Layout, Refusal>
     ensures refusal { number_of result ≡ record_refusal bytes.now }
     ensures layout { IfOk result (λ layout. layout ≡ layout_of (header_in bytes.now)) }

@@ -19,7 +19,7 @@ pub enum Check {
 }
 
 // Refuses an exchange with a bad byte of those that are looked for.
-#[tactic(auto, using(refusal::proofs::Answers::refusal_decides, refusal::proofs::Answers::none_decides), unfolding(crate::specs::Form::exchange_refusal, crate::specs::Record::turn_of, crate::specs::Record::challenge_of, crate::specs::Record::reply_vectors))]
+#[tactic(auto, using(refusal::proofs::Answers::chain), unfolding(crate::specs::Form::exchange_refusal, crate::specs::Record::turn_of, crate::specs::Record::challenge_of, crate::specs::Record::reply_vectors))]
 fn check_exchange(check: Check, h: Header, exchange: &[u8]) -> Result<(), Refusal>
     ensures { number_of result ≡ exchange_refusal check h exchange.now }
 {

@@ -26,7 +26,7 @@ struct Contents<'a> {
 
 impl<'a> Contents<'a> {
     // Refuses what is no record's, and an output of another length; the header's scheme was decoded from the byte.
-    #[tactic(auto, using(refusal::proofs::Answers::refusal_decides, refusal::proofs::Answers::none_decides), unfolding(crate::specs::Writer::write_refusal, record_form::specs::Record::layout_of))]
+    #[tactic(auto, using(refusal::proofs::Answers::chain), unfolding(crate::specs::Writer::write_refusal, record_form::specs::Record::layout_of))]
     fn check(&self, scheme: u8, out_len: usize) -> Result<(), Refusal>
         ensures { number_of result ≡ write_refusal scheme (fields_of self.now.header self.now.key.now self.now.commitments.now self.now.exchanges.now) out_len }
     {
@@ -63,6 +63,7 @@ impl<'a> Contents<'a> {
 }
 
 // Writes the record of a session: its key, and the commitments and exchanges of all its rounds.
+#[tactic(auto, using(refusal::proofs::Answers::chain))]
 pub fn write(
     scheme: u8,
     q: u8,

@@ -57,7 +57,7 @@ fn record_part(input: &[u8]) -> &[u8]
 }
 
 // The system of an input, all of which is checked.
-#[tactic(auto, using(refusal::proofs::Answers::refusal_decides, refusal::proofs::Answers::none_decides), unfolding(crate::specs::Report::report_refusal))]
+#[tactic(auto, using(refusal::proofs::Answers::chain), unfolding(crate::specs::Report::report_refusal))]
 fn checked_input(input: &[u8]) -> Result<System, Refusal>
     ensures refusal { number_of result ≡ report_refusal input.now }
     ensures bytes { IfOk result (λ system. system.bytes.now ≡ system_part input.now) }

@@ -31,7 +31,7 @@ pub fn check_fit(system: &[u8], bytes: &[u8]) -> Result<(), Refusal>
 }
 
 // The system by which a record is judged, both checked.
-#[tactic(auto, using(refusal::proofs::Answers::refusal_decides, refusal::proofs::Answers::none_decides), unfolding(crate::specs::Transcript::judge_refusal))]
+#[tactic(auto, using(refusal::proofs::Answers::chain), unfolding(crate::specs::Transcript::judge_refusal))]
 pub fn checked_system<'a>(system: &'a [u8], bytes: &[u8]) -> Result<System<'a>, Refusal>
     ensures refusal { number_of result ≡ judge_refusal system.now bytes.now }
     ensures bytes { IfOk result (λ checked. checked.bytes.now ≡ system.now) }
