@@ -1,12 +1,12 @@
 -- The reader's answer: "The reader answers the header and the offset and length of each body".
-use Rattle.std.specs.Prelude.{ℕ, cond, List, leb, eqb, length, take, drop}
+use Rattle.std.specs.Prelude.{ℕ, ◌≡◌, List, leb, eqb, length, take, drop, Result, IfOk}
 use Rattle.slices.specs.Slices.{◌!◌, same}
-use Rattle.refusal.specs.Refusal.{unless, ◌or_else◌}
+use Rattle.refusal.specs.Refusal.{unless, ◌or_else◌, number_of}
+use Rattle.refusal.specs.declared.Refusal.{Refusal}
 use Rattle.field.specs.Vector.{all_below}
 use Rattle.scheme.specs.Scheme.{is_scheme}
 use Rattle.record_form.specs.declared.form.Check.TheVariants.{FileOrder}
-use Rattle.record.specs.declared.Reading.{Reading}
-use Rattle.record.specs.declared.Reading.TheVariants.{Good, Refused}
+use Rattle.record_form.specs.declared.layout.Layout.{Layout}
 use Rattle.record_form.specs.Record.{layout_of, record_length, table, header_in, fields_in}
 use Rattle.record_form.specs.Form.{are_values, exchanges_refusal}
 
@@ -23,11 +23,6 @@ record_refusal b =
     unless (all_below h.q (fields_in b).key) 3 or_else
     exchanges_refusal FileOrder h (fields_in b).exchanges
 
--- this document's number for each of the answer's cases
-unfoldable pub refusal_of : Reading → ℕ
-refusal_of (Good layout) = 0
-refusal_of (Refused number) = number
-
--- the layout where nothing is refused, else the refusal's number
-unfoldable pub reading_of : List ℕ → Reading
-reading_of b = cond (eqb (record_refusal b) 0) (Good (layout_of (header_in b))) (Refused (record_refusal b))
+-- what the reader answers: the layout where nothing is refused, else the refusal
+abbrev pub Reading : List ℕ → Result Layout Refusal → Type 0
+Reading b answer = (number_of answer ≡ record_refusal b) × IfOk answer (λ l. l ≡ layout_of (header_in b))

@@ -4,5 +4,5 @@
 mod form;
 mod layout;
 
-pub use form::{Check, are_values, exchanges_refusal};
-pub use layout::{Body, Header, Layout, header_from, laid_out, record_length, table};
+pub use form::{Check, check_exchanges};
+pub use layout::{Body, Header, Layout};

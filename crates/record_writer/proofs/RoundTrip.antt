@@ -7,16 +7,18 @@ use native.Mathlib.Omega.{arith}
 use lib.ListN.{length}
 use Rattle.slices.specs.Slices.{◌!◌}
 use borrow.Author.Tests.{eq-eqb, eqb-true}
+use Rattle.std.specs.Prelude.{Result, Ok}
+use Rattle.refusal.specs.declared.Refusal.{Refusal}
+use Rattle.record_form.specs.declared.layout.Layout.{Layout}
 use Rattle.refusal.specs.Refusal.{unless, ◌or_else◌}
 use Rattle.refusal.proofs.Refusals.{first_zero, later_zero, test_holds, equal_holds, both_zero, unless_holds}
 use Rattle.field.specs.Vector.{all_below}
 use Rattle.scheme.specs.Scheme.{byte_of, scheme_of, is_scheme}
 use Rattle.field.proofs.Elements.{all_below_at, at_all_below}
 use Rattle.record_form.specs.declared.form.Check.TheVariants.{Elements, Challenges}
-use Rattle.record.specs.declared.Reading.TheVariants.{Good}
 use Rattle.record_form.specs.Record.{Fields, commitments_body, exchanges_body, layout_of, record_length, head, written, Valid, fields_in}
 use Rattle.record_form.specs.Form.{are_values}
-use Rattle.record.specs.Reader.{record_refusal, reading_of}
+use Rattle.record.specs.Reader.{record_refusal, Reading}
 use Rattle.record_form.proofs.ValidForm.{values, values_true, header_values_of, valid_each, each_zero}
 use Rattle.record.proofs.Readings.{reading_good}
 use Rattle.record.proofs.RecordLayout.{accepted, valid_fields, fields_written, header_written, written_accepted, written_fields, whole_fields}
@@ -84,12 +86,12 @@ valid_taken scheme f is v =
 -- ---- "Reading a written record gives its fields back", and the byte that was given for the scheme
 
 pub read_written : (scheme : ℕ) (f : Fields) (out : ℕ) → write_refusal scheme f out ≡ 0 →
-    (reading_of (written f) ≡ Good (layout_of f.header)) × (fields_in (written f) ≡ f) × (f.header.scheme ≡ scheme_of scheme → written f ! 1 ≡ scheme)
+    ((answer : Result Layout Refusal) → Reading (written f) answer → answer ≡ Ok (layout_of f.header)) × (fields_in (written f) ≡ f) × (f.header.scheme ≡ scheme_of scheme → written f ! 1 ≡ scheme)
 unfolding written head is_scheme
 read_written scheme f out none =
     let t = taken scheme f out none in
     let v = t.valid in (
-      reading_good (written f) (written_accepted f v) ∙ ap (λ h. Good (layout_of h)) (header_written f),
+      λ answer reading. reading_good (written f) answer reading (written_accepted f v) ∙ ap (λ h. Ok (layout_of h)) (header_written f),
       fields_written f v,
       λ is. ap byte_of is ∙ eqb-true (byte_of (scheme_of scheme)) scheme t.scheme_value,
     )

@@ -1,6 +1,7 @@
 -- Chains of answers that end at the first refusal. Assumes nothing.
-use Rattle.std.specs.Prelude.{ℕ, Result, Err}
-use mathlib.Core.Path.{◌≡◌, refl, sym, ◌∙◌}
+use Rattle.std.specs.Prelude.{ℕ, Result, Ok, Err}
+use mathlib.Core.Path.{◌≡◌, refl, sym, ap, ◌∙◌}
+use native.Mathlib.Omega.{arith}
 use Rattle.refusal.specs.declared.Refusal.{Refusal}
 use Rattle.refusal.specs.declared.Refusal.TheVariants.{Value, Length, Element, Challenge, Secret, Form, Mismatch, Rejected, NoFullSet, NotDue, Closed, LabelHalf, LabelOrder}
 use Rattle.refusal.specs.Refusal.{number, number_of, kept, ◌or_else◌}
@@ -26,6 +27,12 @@ refusal_decides LabelOrder rest = refl
 -- none is 0, so what follows decides
 pub none_decides : (rest : ℕ) → (0 or_else rest) ≡ rest
 none_decides rest = later_decides 0 rest refl
+
+-- and no refusal has the number 0
+pub refuses : (refusal : Refusal) → number refusal ≡ 0 → ⊥
+refuses refusal zeroed =
+    let one : 1 ≡ 0 = sym (none_decides 1) ∙ ap (λ (k : ℕ). k or_else 1) (sym zeroed) ∙ refusal_decides refusal 1 ∙ zeroed in
+    absurd (omega (arith, one))
 
 -- a call that refuses ends the chain, and what is handed on is its refusal
 pub ends_chain : {A : Type 0} (answer : Result A Refusal) (refusal : Refusal) (here rest : ℕ) → answer ≡ Err refusal → number refusal ≡ here →

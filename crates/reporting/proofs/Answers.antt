@@ -7,9 +7,6 @@ use native.Mathlib.Omega.{arith}
 use lib.ListN.{length}
 use borrow.Author.Tests.{eq-eqb, ne_eqb}
 use Rattle.slices.specs.Slices.{placed}
-use Rattle.refusal.proofs.Refusals.{first_zero, later_zero}
-use Rattle.system.specs.System.{system_refusal}
-use Rattle.transcript.specs.Transcript.{judge_refusal}
 use Rattle.report_lines.specs.ReportLines.{refused_line}
 use Rattle.reporting.specs.Report.{system_part, record_part, report_refusal, judged_text, report_text, report_length, report_out}
 
@@ -38,8 +35,3 @@ pub judged_text_lem : (input text after : List ℕ) (answer : ℕ) → length te
     after ≡ placed text 0 (judged_text (system_part input) (record_part input)) → answer ≡ length (judged_text (system_part input) (record_part input)) → answer ≤ 8192 → Reported input text answer after
 unfolding report_text
 judged_text_lem input text after answer size none ea el fits = text_written input text (judged_text (system_part input) (record_part input)) after answer size (simp none) ea el fits
-
--- the system of an input that is not refused is not refused
-pub system_good : (input : List ℕ) → report_refusal input ≡ 0 → system_refusal (system_part input) ≡ 0
-unfolding report_refusal judge_refusal
-system_good input none = first_zero _ _ (later_zero _ _ none)

@@ -4,19 +4,20 @@
 // text, and answers the text's length; a buffer of another length stays as it is, and the answer is 0.
 #![tactic(auto)]
 
-ghost use Rattle.std.specs.Prelude.{◌≡◌, cond, ◌+◌, ◌≤◌, ◌<◌, length};
+ghost use Rattle.std.specs.Prelude.{◌≡◌, ◌≤◌, length, IfOk};
 ghost use Rattle.slices.specs.Slices.{placed, zeros};
-ghost use Rattle.system.specs.System.{system_refusal};
+ghost use Rattle.refusal.specs.Refusal.{number_of};
 ghost use Rattle.reporting.specs.Report.{system_part, record_part, report_refusal, judged_text, report_length, report_out};
 
 use record::header_of;
-use refusal::unless;
+use refusal::{Refusal, require};
 use report_lines::{refused_line, round_line, totals_line, verdict_line};
 use slices::{byte_at, part};
-use system::system_length;
-use transcript::{accepts_round, judge_refusal, round_challenge};
+use system::{System, system_length};
+use transcript::{accepts_round, checked_system, round_challenge};
 
 // Zeros, with room for the longest input and one byte more, by which an input that is too long shows.
+#[tactic(auto, unfolding(slices::specs::Slices::zeros))]
 pub fn input_buffer() -> [u8; 65537]
     ensures { (result ≡ zeros 65537) × (65537 ≡ length result) }
 {
@@ -24,6 +25,7 @@ pub fn input_buffer() -> [u8; 65537]
 }
 
 // Zeros, with room for the longest text.
+#[tactic(auto, unfolding(slices::specs::Slices::zeros))]
 pub fn text_buffer() -> [u8; 8192]
     ensures { (result ≡ zeros 8192) × (8192 ≡ length result) }
 {
@@ -31,6 +33,7 @@ pub fn text_buffer() -> [u8; 8192]
 }
 
 // The system at the front of the input.
+#[tactic(auto, unfolding(crate::specs::Report::system_part))]
 pub fn system_part(input: &[u8]) -> &[u8]
     ensures { result.now ≡ system_part input.now }
 {
@@ -42,6 +45,7 @@ pub fn system_part(input: &[u8]) -> &[u8]
 }
 
 // What stands behind it.
+#[tactic(auto, unfolding(crate::specs::Report::record_part))]
 fn record_part(input: &[u8]) -> &[u8]
     ensures { result.now ≡ record_part input.now }
 {
@@ -52,52 +56,35 @@ fn record_part(input: &[u8]) -> &[u8]
     )
 }
 
-// The refusal of an input, 0 for none; it ends at the first.
-fn report_refusal(input: &[u8]) -> u8
-    ensures { result ≡ report_refusal input.now }
+// The system of an input, all of which is checked.
+#[tactic(auto, using(refusal::proofs::Answers::chain), unfolding(crate::specs::Report::report_refusal))]
+fn checked_input(input: &[u8]) -> Result<System, Refusal>
+    ensures refusal { number_of result ≡ report_refusal input.now }
+    ensures bytes { IfOk result (λ system. system.bytes.now ≡ system_part input.now) }
 {
-    let too_long = unless(input.len() <= 65536, 2);
-    if too_long != 0 {
-        return too_long;
-    }
-    judge_refusal(system_part(input), record_part(input))
-}
-
-// One accepted round more, or not.
-fn counted(accepted: u8, round_accepted: bool) -> u8
-    requires { accepted < 255 }
-    ensures { (result ≡ accepted + cond round_accepted 1 0) × (result ≤ accepted + 1) }
-{
-    if round_accepted {
-        accepted + 1
-    } else {
-        accepted
-    }
+    require(input.len() <= 65536, Refusal::Length)?;
+    checked_system(system_part(input), record_part(input))
 }
 
 // Judges every round: a line for each, then the verdict, then how many are accepted and how many rejected.
-fn judged<'a>(system: &'a [u8], bytes: &'a [u8], text: &mut [u8]) -> usize
-    requires { (system_refusal system.now ≡ 0) × (length text.old ≡ 8192) }
-    ensures { (text.new ≡ placed text.old 0 (judged_text system.now bytes.now))
-        × (result ≡ length (judged_text system.now bytes.now)) × (result ≤ 8192) }
+fn judged(system: &System, bytes: &[u8], text: &mut [u8]) -> usize
+    requires { length text.old ≡ 8192 }
+    ensures { (text.new ≡ placed text.old 0 (judged_text system.now.bytes.now bytes.now))
+        × (result ≡ length (judged_text system.now.bytes.now bytes.now)) × (result ≤ 8192) }
 {
     let rounds = header_of(bytes).rounds;
     let mut at = 0;
     let mut accepted = 0;
-    let mut left = rounds;
-    while 0 < left {
-        let r = rounds - left;
-        let round_accepted = accepts_round(system, bytes, r);
-        let challenge = round_challenge(bytes, r);
-        at = round_line(text, at, r + 1, challenge, round_accepted);
-        accepted = counted(accepted, round_accepted);
-        left -= 1;
+    for r in 0..rounds {
+        let is_accepted = accepts_round(system, bytes, r);
+        at = round_line(text, at, r + 1, round_challenge(bytes, r), is_accepted);
+        accepted += u8::from(is_accepted);
     }
     let next = verdict_line(text, at, accepted, rounds);
     totals_line(text, next, accepted, rounds - accepted)
 }
 
-// Writes the report on an input, and answers its length.
+// Writes the report on an input, and answers its length; 0 and no Option, for the C entry answers the same.
 pub fn report(input: &[u8], text: &mut [u8]) -> usize
     ensures { (result ≡ report_length input.now (length text.old))
         × (text.new ≡ report_out input.now text.old) × (result ≤ length text.old) }
@@ -105,9 +92,8 @@ pub fn report(input: &[u8], text: &mut [u8]) -> usize
     if text.len() != 8192 {
         return 0;
     }
-    let refused = report_refusal(input);
-    if refused != 0 {
-        return refused_line(text, 0, refused);
+    match checked_input(input) {
+        Ok(system) => judged(&system, record_part(input), text),
+        Err(refusal) => refused_line(text, 0, u8::from(refusal)),
     }
-    judged(system_part(input), record_part(input), text)
 }
