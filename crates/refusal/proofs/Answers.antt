@@ -1,10 +1,10 @@
 -- Chains of answers that end at the first refusal. Assumes nothing.
-use Rattle.std.specs.Prelude.{ℕ, Result, Ok, Err}
+use Rattle.std.specs.Prelude.{ℕ, Result, Err}
 use mathlib.Core.Path.{◌≡◌, refl, sym, ◌∙◌}
 use Rattle.refusal.specs.declared.Refusal.{Refusal}
 use Rattle.refusal.specs.declared.Refusal.TheVariants.{Value, Length, Element, Challenge, Secret, Form, Mismatch, Rejected, NoFullSet, NotDue, Closed, LabelHalf, LabelOrder}
-use Rattle.refusal.specs.Refusal.{number, number_of, ◌or_else◌}
-use Rattle.refusal.proofs.Refusals.{later_decides}
+use Rattle.refusal.specs.Refusal.{number, number_of, ◌or_else◌, kept}
+use Rattle.refusal.proofs.Refusals.{later_decides, kept_accepted}
 
 -- a refusal has a number of its own, so it decides
 pub refusal_decides : (refusal : Refusal) (rest : ℕ) → (number refusal or_else rest) ≡ number refusal
@@ -35,6 +35,26 @@ ends_chain answer refusal here rest handed is = rw (handed, sym is) (sym (refusa
 -- one that does not leaves it to the rest
 pub goes_on_chain : (answer here rest : ℕ) → 0 ≡ here → answer ≡ rest → answer ≡ (here or_else rest)
 goes_on_chain answer here rest none later = rw (sym none) (later ∙ sym (none_decides rest))
+
+-- what is refused stays as it was, and where nothing is the new value stands
+pub refused_keeps : {A : Type 0} (refusal : Refusal) (old new : A) → kept (number refusal) old new ≡ old
+unfolding kept
+refused_keeps Value old new = refl
+refused_keeps Length old new = refl
+refused_keeps Element old new = refl
+refused_keeps Challenge old new = refl
+refused_keeps Secret old new = refl
+refused_keeps Form old new = refl
+refused_keeps Mismatch old new = refl
+refused_keeps Rejected old new = refl
+refused_keeps NoFullSet old new = refl
+refused_keeps NotDue old new = refl
+refused_keeps Closed old new = refl
+refused_keeps LabelHalf old new = refl
+refused_keeps LabelOrder old new = refl
+
+pub none_replaces : {A : Type 0} (old new : A) → kept 0 old new ≡ new
+none_replaces old new = kept_accepted 0 old new refl
 
 -- what a chain of answers needs
 pub ruleset chain = (refusal_decides, none_decides)
