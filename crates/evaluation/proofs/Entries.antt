@@ -7,7 +7,7 @@ use Rattle.slices.specs.Slices.{◌!◌}
 use Rattle.refusal.specs.Refusal.{kept}
 use Rattle.refusal.proofs.Refusals.{first_zero, later_zero, equal_holds}
 use Rattle.refusal.proofs.Refusals.{or_else_assoc}
-use Rattle.refusal.proofs.Answers.{refusal_decides, none_decides, refused_keeps, none_replaces}
+use Rattle.refusal.proofs.Answers.{refusal_decides, none_decides, refused_kept, none_kept}
 use Rattle.field.specs.Vector.{vector}
 use Rattle.system.specs.System.{n_of, m_of, system_refusal, F, G}
 use Rattle.evaluation.specs.Entry.{evaluate_refusal, polar_refusal}
@@ -62,7 +62,7 @@ module _ (b x : List ℕ) (good : system_refusal b ≡ 0) (long : length x ≡ n
 pub written : (value : List ℕ → List ℕ) (b system result out l : List ℕ) → system ≡ b → length out ≡ m_of system → result ≡ value system →
     l ≡ take (length out) result → l ≡ kept 0 out (take (m_of b) (value b))
 written value b system result out l same long is copied =
-    copied ∙ ap₂ take (long ∙ ap m_of same) (is ∙ ap value same) ∙ sym (none_replaces out _)
+    copied ∙ ap₂ take (long ∙ ap m_of same) (is ∙ ap value same) ∙ sym (none_kept out _)
 
 -- what a chain of answers and the output's state need
-pub ruleset answers = (or_else_assoc, refusal_decides, none_decides, refused_keeps, none_replaces)
+pub ruleset answers = (or_else_assoc, refusal_decides, none_decides, refused_kept, none_kept)

@@ -7,7 +7,7 @@ use lib.Dec.{leb, eqb}
 use lib.ListN.{length, take}
 use borrow.Author.Tests.{leb-true, eqb-false, not-true}
 use Rattle.refusal.proofs.Refusals.{first_zero, later_zero, test_holds, equal_holds, or_else_assoc}
-use Rattle.refusal.proofs.Answers.{refusal_decides, none_decides, refused_keeps, none_replaces}
+use Rattle.refusal.proofs.Answers.{refusal_decides, none_decides, refused_kept, none_kept}
 use Rattle.field.specs.Vector.{all_below}
 use Rattle.system.specs.System.{q_of, n_of, m_of, system_refusal}
 use Rattle.scheme.specs.declared.Scheme.TheVariants.{ThreePass}
@@ -50,4 +50,4 @@ taken b v unanswered challenge lent commitments reply none =
     }
 
 -- what a chain of answers and the outputs' states need
-pub ruleset answers = (or_else_assoc, refusal_decides, none_decides, refused_keeps, none_replaces)
+pub ruleset answers = (or_else_assoc, refusal_decides, none_decides, refused_kept, none_kept)
