@@ -1,5 +1,7 @@
 -- What differs between the schemes: their byte, their counts and the lengths of a round's messages. Each definition has a clause a scheme.
-use Rattle.std.specs.Prelude.{ℕ, ◌+◌, ◌*◌, Bool, true, false, cond, ◌&&◌, eqb, leb}
+use Rattle.std.specs.Prelude.{ℕ, ◌≡◌, ◌+◌, ◌*◌, Bool, true, false, cond, ◌&&◌, eqb, leb, Result, IfOk}
+use Rattle.refusal.specs.declared.Refusal.{Refusal}
+use Rattle.refusal.specs.Refusal.{unless, number_of}
 use Rattle.scheme.specs.declared.Scheme.{Scheme}
 use Rattle.scheme.specs.declared.Scheme.TheVariants.{ThreePass, FivePass}
 
@@ -18,6 +20,11 @@ scheme_of byte = cond (eqb byte 3) ThreePass FivePass
 -- the byte is that of the scheme which it decodes to
 unfoldable pub is_scheme : ℕ → Bool
 is_scheme byte = eqb (byte_of (scheme_of byte)) byte
+
+-- a byte as a scheme: 1 for one that is no scheme's
+pub record Decodes (byte : ℕ) (answer : Result Scheme Refusal) : Type 0 where
+  pub refusal : number_of answer ≡ unless (is_scheme byte) 1
+  pub scheme : IfOk answer (λ scheme. scheme ≡ scheme_of byte)
 
 -- "the round count N from 1 to 255"
 unfoldable pub is_rounds : ℕ → Bool

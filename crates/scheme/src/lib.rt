@@ -5,16 +5,48 @@
 #![tactic(auto)]
 
 ghost use Rattle.std.specs.Prelude.{◌≡◌, ◌*◌, ◌≤◌};
+ghost use Rattle.scheme.specs.Scheme.{Decodes};
 ghost use Rattle.scheme.specs.Scheme.{byte_of, scheme_of, is_scheme, is_rounds, challenges as challenges_of, commitment_count, opened_count, has_alpha};
 ghost use Rattle.scheme.specs.Scheme.{drawn_length, commitments_length, lent_length, turn_length, vectors_length, rhos_length, reply_length, exchange_length};
 
-#[derive(Clone, Copy)]
+use refusal::Refusal;
+
+#[derive(Clone, Copy, Debug, PartialEq, Eq)]
 pub enum Scheme {
     ThreePass,
     FivePass,
 }
 
 // The byte of a scheme.
+impl From<Scheme> for u8 {
+    ghost from_gives = { λ scheme byte. byte ≡ byte_of scheme };
+
+    #[tactic(auto, unfolding(crate::specs::Scheme::byte_of))]
+    fn from(scheme: Scheme) -> u8 {
+        match scheme {
+            Scheme::ThreePass => 3,
+            Scheme::FivePass => 5,
+        }
+    }
+}
+
+// The scheme of a byte, or that it is none's.
+impl TryFrom<u8> for Scheme {
+    type Error = Refusal;
+
+    ghost try_from_gives = { Decodes };
+
+    fn try_from(byte: u8) -> Result<Scheme, Refusal> {
+        match byte {
+            3 => Ok(Scheme::ThreePass),
+            5 => Ok(Scheme::FivePass),
+            _ => Err(Refusal::Value),
+        }
+    }
+}
+
+// The byte of a scheme.
+#[tactic(auto, unfolding(crate::specs::Scheme::byte_of))]
 pub fn byte_of(scheme: Scheme) -> u8
     ensures { result ≡ byte_of scheme }
 {
@@ -25,6 +57,7 @@ pub fn byte_of(scheme: Scheme) -> u8
 }
 
 // The scheme of a byte; of a byte that is no scheme's, five passes, which `is_scheme` tells.
+#[tactic(auto, unfolding(crate::specs::Scheme::scheme_of))]
 pub fn scheme_of(byte: u8) -> Scheme
     ensures { result ≡ scheme_of byte }
 {
@@ -35,6 +68,7 @@ pub fn scheme_of(byte: u8) -> Scheme
 }
 
 // Whether a byte is a scheme's.
+#[tactic(auto, unfolding(crate::specs::Scheme::is_scheme))]
 pub fn is_scheme(byte: u8) -> bool
     ensures { result ≡ is_scheme byte }
 {
@@ -42,6 +76,7 @@ pub fn is_scheme(byte: u8) -> bool
 }
 
 // Whether a session has so many rounds: a byte is at most 255.
+#[tactic(auto, unfolding(crate::specs::Scheme::is_rounds))]
 pub fn is_rounds(rounds: u8) -> bool
     ensures { result ≡ is_rounds rounds }
 {
@@ -49,6 +84,7 @@ pub fn is_rounds(rounds: u8) -> bool
 }
 
 // How many challenges there are; they are counted from 0.
+#[tactic(auto, unfolding(crate::specs::Scheme::challenges))]
 pub fn challenges(scheme: Scheme) -> u8
     ensures { result ≡ challenges_of scheme }
 {
@@ -59,6 +95,7 @@ pub fn challenges(scheme: Scheme) -> u8
 }
 
 // How many commitments a round has, and ρ are lent for it.
+#[tactic(auto, unfolding(crate::specs::Scheme::commitment_count))]
 pub fn commitment_count(scheme: Scheme) -> u8
     ensures { (result ≡ commitment_count scheme) × (result ≤ 3) }
 {
@@ -69,6 +106,7 @@ pub fn commitment_count(scheme: Scheme) -> u8
 }
 
 // How many of them a reply opens.
+#[tactic(auto, unfolding(crate::specs::Scheme::opened_count))]
 pub fn opened_count(scheme: Scheme) -> u8
     ensures { (result ≡ opened_count scheme) × (result ≤ 2) }
 {
@@ -79,6 +117,7 @@ pub fn opened_count(scheme: Scheme) -> u8
 }
 
 // Whether α, t1 and e1 come between commitments and challenge.
+#[tactic(auto, unfolding(crate::specs::Scheme::has_alpha))]
 pub fn has_alpha(scheme: Scheme) -> bool
     ensures { result ≡ has_alpha scheme }
 {
@@ -89,6 +128,7 @@ pub fn has_alpha(scheme: Scheme) -> bool
 }
 
 // The elements that are lent for a round.
+#[tactic(auto, unfolding(crate::specs::Scheme::drawn_length))]
 pub fn drawn_length(scheme: Scheme, n: u8, m: u8) -> usize
     ensures { (result ≡ drawn_length scheme n m) × (result ≤ 765) }
 {
@@ -99,6 +139,7 @@ pub fn drawn_length(scheme: Scheme, n: u8, m: u8) -> usize
 }
 
 // The bytes of a round's commitments.
+#[tactic(auto, unfolding(crate::specs::Scheme::commitments_length))]
 pub fn commitments_length(scheme: Scheme) -> usize
     ensures { (result ≡ commitments_length scheme) × (result ≤ 96) }
 {
@@ -106,6 +147,7 @@ pub fn commitments_length(scheme: Scheme) -> usize
 }
 
 // The bytes that are lent for a round: elements, then ρ.
+#[tactic(auto, unfolding(crate::specs::Scheme::lent_length))]
 pub fn lent_length(scheme: Scheme, n: u8, m: u8) -> usize
     ensures { (result ≡ lent_length scheme n m) × (result ≤ 861) }
 {
@@ -113,6 +155,7 @@ pub fn lent_length(scheme: Scheme, n: u8, m: u8) -> usize
 }
 
 // The bytes of α, t1 and e1, where there are any.
+#[tactic(auto, unfolding(crate::specs::Scheme::turn_length))]
 pub fn turn_length(scheme: Scheme, n: u8, m: u8) -> usize
     ensures { (result ≡ turn_length scheme n m) × (result ≤ 511) }
 {
@@ -123,6 +166,7 @@ pub fn turn_length(scheme: Scheme, n: u8, m: u8) -> usize
 }
 
 // The elements of a reply.
+#[tactic(auto, unfolding(crate::specs::Scheme::vectors_length))]
 pub fn vectors_length(scheme: Scheme, n: u8, m: u8) -> usize
     ensures { (result ≡ vectors_length scheme n m) × (result ≤ 765) }
 {
@@ -133,6 +177,7 @@ pub fn vectors_length(scheme: Scheme, n: u8, m: u8) -> usize
 }
 
 // The bytes of ρ in a reply.
+#[tactic(auto, unfolding(crate::specs::Scheme::rhos_length))]
 pub fn rhos_length(scheme: Scheme) -> usize
     ensures { (result ≡ rhos_length scheme) × (result ≤ 64) }
 {
@@ -140,6 +185,7 @@ pub fn rhos_length(scheme: Scheme) -> usize
 }
 
 // The bytes of a reply.
+#[tactic(auto, unfolding(crate::specs::Scheme::reply_length))]
 pub fn reply_length(scheme: Scheme, n: u8, m: u8) -> usize
     ensures { (result ≡ reply_length scheme n m) × (result ≤ 829) }
 {
@@ -147,6 +193,7 @@ pub fn reply_length(scheme: Scheme, n: u8, m: u8) -> usize
 }
 
 // The bytes of an exchange: α, t1 and e1 in scheme 5; the challenge; the reply.
+#[tactic(auto, unfolding(crate::specs::Scheme::exchange_length))]
 pub fn exchange_length(scheme: Scheme, n: u8, m: u8) -> usize
     ensures { (result ≡ exchange_length scheme n m) × (result ≤ 1341) }
 {

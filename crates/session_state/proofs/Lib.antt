@@ -1,2 +1,0 @@
--- Laws of refusals by the state.
-pub mod States
