@@ -7,7 +7,7 @@ use lib.ListN.{take, drop}
 use Rattle.slices.specs.Slices.{number}
 use native.Mathlib.Omega.{arith}
 use native.Mathlib.Nat.{add-sub_cancel_left}
-use Rattle.book_reader.proofs.offset_refusal.Goals as goal
+use Rattle.book_reader.proofs.check_offset.Goals as goal
 
 same_four : (at i : ℕ) (t : List ℕ) → at ≡ i * 14 → take 4 (drop 10 (take (at + 14 - at) (drop at t))) ≡ take 4 (drop 10 (take 14 (drop (i * 14) t)))
 same_four at i t e =
@@ -21,4 +21,4 @@ overflow_add-entry c =
 pub returns : goal.returns
 unfolding offset_refusal
 returns c =
-    simp (c.unless.ensures, c.offset_of.ensures.0, c.number-offset.ensures ∙ ap number (same_four _ _ c.args.table.now c.of_cards-at.ensures.0))
+    simp (c.require.ensures, c.offset_of.ensures.0, c.number-offset.ensures ∙ ap number (same_four _ _ c.args.table.now c.of_cards-at.ensures.0))
