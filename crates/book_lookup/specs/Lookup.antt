@@ -1,15 +1,13 @@
 -- The lookup's answer: document 02, paper 2, "a lookup that answers the key, or absent exactly when no entry has the label".
-use Rattle.std.specs.Prelude.{ℕ, ◌-◌, ◌≤◌, ◌<◌, ◌≡◌, true, false, cond, List, eqb, length}
+use Rattle.std.specs.Prelude.{ℕ, ◌-◌, ◌≤◌, ◌<◌, ◌≡◌, true, false, cond, List, eqb, length, Option, Some, None, Result, Ok, Err}
 use Rattle.slices.specs.Slices.{same, zeros}
-use Rattle.refusal.specs.Refusal.{unless, ◌or_else◌, first_where}
+use Rattle.refusal.specs.declared.Refusal.{Refusal}
+use Rattle.refusal.specs.Refusal.{unless, ◌or_else◌, first_where, number}
 use Rattle.field.specs.Vector.{as_vector}
 use Rattle.label.specs.Tests.{is_label, is_below}
 use Rattle.book_form.specs.Book.{key_of, front_in, table_in, fields_in}
 use Rattle.book_form.specs.Labels.{label_at}
 use Rattle.book_reader.specs.Reader.{book_refusal}
-use Rattle.book_lookup.specs.declared.Answer.{Answer}
-use Rattle.book_lookup.specs.declared.Answer.TheVariants.{Found, Absent, Refused}
-use Rattle.book_lookup.specs.declared.LookedUp.{LookedUp}
 
 -- "a label looked up comes last, 2 before 12"
 unfoldable pub lookup_refusal : List ℕ → List ℕ → ℕ
@@ -22,6 +20,17 @@ place_in table count label = first_where count (λ i. same (label_at 14 table i)
 -- card i's key, "held by value in 96 bytes, zero beyond its length"
 unfoldable pub key_in : List ℕ → ℕ → List ℕ
 key_in b i = as_vector (key_of (front_in b) (fields_in b).keys i)
+
+-- the answer's cases: the label is found, or absent, or the call is refused by this document's number
+pub data Answer : Type 0 where
+  Found : Answer
+  Absent : Answer
+  Refused : ℕ → Answer
+
+-- with the key beside it
+pub record LookedUp : Type 0 where
+  pub answer : Answer
+  pub key : List ℕ
 
 -- the values of each case: the key is zero where there is none
 unfoldable pub no_key : Answer → LookedUp
@@ -39,6 +48,12 @@ unfoldable pub refusal_of : Answer → ℕ
 refusal_of Found = 0
 refusal_of Absent = 0
 refusal_of (Refused number) = number
+
+-- the case, the number and the values of each answer of the code
+abbrev pub answered : Result (Option (List ℕ)) Refusal → LookedUp
+answered (Ok (Some key)) = record { answer = Found; key = key }
+answered (Ok None) = no_key Absent
+answered (Err refusal) = no_key (Refused (number refusal))
 
 -- ---- the search
 
