@@ -6,4 +6,4 @@ use Rattle.book_lines.proofs.looked_up.Goals as goal
 
 pub returns : goal.returns
 returns c =
-    c.lookup.ensures.0 ∙ ap (lookup_of _) (label_lent _ _ _ _ c.bytes_from-label.ensures c.label_length.ensures c.part.ensures)
+    c.lookup.ensures.answer ∙ ap (lookup_of _) (label_lent _ _ _ _ c.bytes_from-label.ensures c.label_length.ensures c.part.ensures)
