@@ -9,7 +9,8 @@ use Rattle.refusal.specs.Refusal.{number}
 use Rattle.book_form.specs.declared.layout.Front.{Front}
 use Rattle.book_form.specs.Book.{front_in}
 use Rattle.report_lines.specs.ReportLines.{refused_line}
-use Rattle.book_lookup.specs.Lookup.{LookedUp, lookup_of, answered, no_key}
+use Rattle.book_lookup.specs.Answer.{LookedUp}
+use Rattle.book_lookup.specs.Lookup.{lookup_of, answered, no_key}
 use Rattle.iccid.specs.Iccid.{label_from}
 use Rattle.book_lines.specs.BookLines.{absent_line, key_line, answer_line, lookup_text}
 

@@ -29,7 +29,8 @@ use Rattle.book_form.proofs.Rising.{one_card}
 use Rattle.book_reader.specs.Reader.{book_refusal}
 use Rattle.book_reader.proofs.WellFormed.{written_accepted, well_formed, refusal_most}
 use Rattle.book_lookup.specs.Claim.{HasLabel, RightAnswer}
-use Rattle.book_lookup.specs.Lookup.{Answer, Found, Absent, Refused, LookedUp, place_in, key_in, no_key, lookup_at, lookup_refusal, lookup_of, refusal_of, answered}
+use Rattle.book_lookup.specs.Answer.{Answer, Found, Absent, Refused, LookedUp}
+use Rattle.book_lookup.specs.Lookup.{place_in, key_in, no_key, lookup_at, lookup_refusal, lookup_of, refusal_of, answered}
 
 -- ---- the three cases
 

@@ -1,8 +1,8 @@
--- What is claimed of the lookup: document 02, paper 2. It names the fields of a well-formed book, and none of the definitions by which the code looks, but the cases of an answer.
+-- What is claimed of the lookup: document 02, paper 2. It names the fields of a well-formed book, and none of the definitions by which the code looks.
 use Rattle.std.specs.Prelude.{ℕ, ◌<◌, ◌≡◌, ◌↔◌, List}
 use Rattle.field.specs.Vector.{as_vector}
 use Rattle.book_form.specs.Book.{label_of, key_of, Fields}
-use Rattle.book_lookup.specs.Lookup.{Found, Absent, LookedUp}
+use Rattle.book_lookup.specs.Answer.{Found, Absent, LookedUp}
 
 -- card i of a book has the label
 abbrev pub HasLabel : Fields → List ℕ → ℕ → Type 0

@@ -8,6 +8,7 @@ use Rattle.label.specs.Tests.{is_label, is_below}
 use Rattle.book_form.specs.Book.{key_of, front_in, table_in, fields_in}
 use Rattle.book_form.specs.Labels.{label_at}
 use Rattle.book_reader.specs.Reader.{book_refusal}
+use Rattle.book_lookup.specs.Answer.{Answer, Found, Absent, Refused, LookedUp}
 
 -- "a label looked up comes last, 2 before 12"
 unfoldable pub lookup_refusal : List ℕ → List ℕ → ℕ
@@ -20,17 +21,6 @@ place_in table count label = first_where count (λ i. same (label_at 14 table i)
 -- card i's key, "held by value in 96 bytes, zero beyond its length"
 unfoldable pub key_in : List ℕ → ℕ → List ℕ
 key_in b i = as_vector (key_of (front_in b) (fields_in b).keys i)
-
--- the answer's cases: the label is found, or absent, or the call is refused by this document's number
-pub data Answer : Type 0 where
-  Found : Answer
-  Absent : Answer
-  Refused : ℕ → Answer
-
--- with the key beside it
-pub record LookedUp : Type 0 where
-  pub answer : Answer
-  pub key : List ℕ
 
 -- the values of each case: the key is zero where there is none
 unfoldable pub no_key : Answer → LookedUp

@@ -13,7 +13,8 @@ use Rattle.refusal.proofs.Refusals.{equal_holds, unless_holds, later_decides, ke
 use Rattle.book_form.proofs.Loops.{some_number}
 use Rattle.book_reader.specs.Reader.{book_refusal}
 use Rattle.book_reader.proofs.WellFormed.{accepted}
-use Rattle.book_lookup.specs.Lookup.{LookedUp, lookup_of, no_key, answered}
+use Rattle.book_lookup.specs.Answer.{LookedUp}
+use Rattle.book_lookup.specs.Lookup.{lookup_of, no_key, answered}
 use Rattle.capi_books.specs.Numbers.{answer_number, lookup_number}
 
 -- a book that is not refused has its first seven bytes
