@@ -15,7 +15,7 @@ use book_form::Front;
 use book_lookup::lookup;
 use book_reader::{front_of, key_at, labels_of, read};
 use hex_text::append_hex;
-use iccid::{append_label, bytes_from, label_length};
+use iccid::{append_label, label_of};
 use refusal::Refusal;
 use report_lines::refused_line;
 use slices::part;
@@ -83,8 +83,10 @@ pub fn book_text(book: &[u8], text: &mut [u8; 428064]) -> usize
 fn looked_up<'a>(book: &'a [u8], iccid: &'a [u8]) -> Result<Option<[u8; 96]>, Refusal>
     ensures { answered result ≡ lookup_of book.now (label_from iccid.now) }
 {
-    let label = bytes_from(iccid);
-    lookup(book, part(&label, 0, label_length(iccid)))
+    match label_of(iccid) {
+        Some(label) => lookup(book, &label),
+        None => lookup(book, &[]),
+    }
 }
 
 // A key alone on its line.
