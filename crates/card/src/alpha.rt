@@ -1,34 +1,30 @@
 // The card's reply to α.
 ghost use Rattle.std.specs.Prelude.{◌≡◌, length};
-ghost use Rattle.refusal.specs.Refusal.{kept};
+ghost use Rattle.refusal.specs.Refusal.{number_of, kept};
 ghost use Rattle.card_state.specs.Card.{alpha_refusal, answered_card, sent_middle};
 
-use card_state::{Card, CardAnswer, CardPhase, alpha_refusal, card_with, held_lent};
+use card_state::{Card, CardPhase, card_with, check_alpha, held_lent};
 use exchange::write_middle;
 use round::middle;
-use slices::byte_at;
+use session_state::Answered;
 
 // Five passes: writes t1 and e1 for α to `out`.
-pub fn answer_alpha(card: Card, system: &[u8], alpha: u8, out: &mut [u8]) -> CardAnswer
-    ensures { (result.refusal ≡ alpha_refusal card system.now alpha (length out.old))
-        × (result.card ≡ kept result.refusal card (answered_card card))
-        × (out.new ≡ kept result.refusal out.old (sent_middle card system.now alpha)) }
+#[tactic(auto, using(refusal::proofs::Answers::chain, card_state::proofs::Taken::alpha_room), unfolding(card_state::specs::Card::answered_card, card_state::specs::Card::sent_middle, exchange::specs::Messages::middle_bytes))]
+pub fn answer_alpha(card: Card, system: &[u8], alpha: u8, out: &mut [u8]) -> Answered<Card, ()>
+    ensures answer { number_of result.answer ≡ alpha_refusal card system.now alpha (length out.old) }
+    ensures session { result.session ≡ kept (number_of result.answer) card (answered_card card) }
+    ensures out { out.new ≡ kept (number_of result.answer) out.old (sent_middle card system.now alpha) }
 {
-    let refused = alpha_refusal(card, system, alpha, out.len());
-    if refused != 0 {
-        return CardAnswer {
-            refusal: refused,
-            card: card,
-        };
-    }
-    let r0 = card.r0;
-    let t0 = card.t0;
-    let e0 = card.e0;
-    let e1 = card.e1;
-    let sent = middle(system, alpha, r0, t0, e0);
-    write_middle(sent, byte_at(system, 1), byte_at(system, 2), out);
-    CardAnswer {
-        refusal: 0,
-        card: card_with(card, CardPhase::Reply, card.round, held_lent(card), e1),
+    match check_alpha(card, system, alpha, out.len()) {
+        Ok(system) => {
+            let (r0, t0, e0, e1) = (card.r0, card.t0, card.e0, card.e1);
+            let sent = middle(&system, alpha, r0, t0, e0);
+            write_middle(sent, system.n(), system.m(), out);
+            Answered::done(
+                (),
+                card_with(card, CardPhase::Reply, card.round, held_lent(card), e1),
+            )
+        }
+        Err(refusal) => Answered::refused(refusal, card),
     }
 }

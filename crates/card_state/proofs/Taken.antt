@@ -1,6 +1,6 @@
 -- What a call of the card that is not refused tells of its arguments, and that such a call is not refused. Assumes nothing.
-use Prim.Native.Nat.{ℕ, ◌+◌, ◌<◌}
-use mathlib.Core.Path.{◌≡◌}
+use Prim.Native.Nat.{ℕ, ◌+◌, ◌≤◌, ◌<◌}
+use mathlib.Core.Path.{◌≡◌, sym}
 use mathlib.Core.Bool.{true}
 use mathlib.Core.List.{List}
 use native.Mathlib.Omega.{arith}
@@ -11,6 +11,7 @@ use Rattle.slices.proofs.Sameness.{same_true, same_by}
 use Rattle.refusal.proofs.Refusals.{first_zero, later_zero, test_holds, equal_holds, both_zero, unless_holds}
 use Rattle.field.specs.Vector.{as_vector, all_below}
 use Rattle.system.specs.System.{q_of, n_of, m_of, are_sizes, has_sizes, system_refusal, system_against, F}
+use Rattle.system.proofs.SystemLayout.{accepted, has_sizes_lem}
 use Rattle.scheme.specs.Scheme.{is_scheme, is_rounds, challenges, drawn_length, commitments_length, lent_length, reply_length}
 use Rattle.session_state.proofs.States.{state_due, due_state}
 use Rattle.card_state.specs.declared.session.Card.{Card}
@@ -151,3 +152,11 @@ reply_due card challenge out k =
     (both_zero _ _ (unless_holds _ 1 k.sizes)
     (both_zero _ _ (unless_holds _ 2 (eq-eqb out (reply_length card.scheme card.n card.m) k.room))
     (unless_holds _ 4 (lt-ltb challenge (challenges card.scheme) k.value))))
+
+-- the room for t1 and e1
+pub alpha_room : (card : Card) (b : List ℕ) (α out : ℕ) → 0 ≡ alpha_refusal card b α out → (n_of b ≤ 96) × (m_of b ≤ 96) × (out ≡ n_of b + m_of b)
+alpha_room card b α out none =
+    let k = alpha_taken card b α out (sym none) in
+    let good = accepted b k.good in
+    let fits = has_sizes_lem _ _ _ _ k.fits in
+    (good.n_high, good.m_high, simp (fits.1, fits.2) k.room)

@@ -4,7 +4,7 @@
 mod refusals;
 mod session;
 
-pub use refusals::{alpha_refusal, commit_refusal, open_refusal, reply_refusal};
+pub use refusals::{check_alpha, check_commit, check_open, check_reply};
 pub use session::{
-    Card, CardAnswer, CardPhase, card_domain, card_with, closed_card, held_lent, no_lent, no_rhos,
+    Card, CardPhase, card_domain, card_with, closed_card, held_lent, no_lent, no_rhos,
 };

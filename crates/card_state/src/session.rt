@@ -6,10 +6,10 @@ use commitment::Domain;
 use exchange::Lent;
 use round::Rhos;
 use scheme::Scheme;
-use session_state::Verdict;
+use session_state::{Phase, Verdict};
 
 // The next call that is due.
-#[derive(Clone, Copy)]
+#[derive(Clone, Copy, Debug, PartialEq, Eq)]
 pub enum CardPhase {
     Commit,
     AnswerAlpha,
@@ -36,34 +36,32 @@ pub struct Card {
     pub rhos: Rhos,
 }
 
-// The number of the refusal, 0 for none, and the session afterwards.
-#[derive(Clone, Copy)]
-pub struct CardAnswer {
-    pub refusal: u8,
-    pub card: Card,
-}
+impl Phase for CardPhase {
+    ghost number = { phase_number };
 
-// The due call by number, 0 for a closed session.
-pub fn phase_number(phase: CardPhase) -> u8
-    ensures { result ≡ phase_number phase }
-{
-    match phase {
-        CardPhase::Closed(_) => 0,
-        CardPhase::Commit => 1,
-        CardPhase::AnswerAlpha => 2,
-        CardPhase::Reply => 3,
+    #[tactic(auto, unfolding(crate::specs::Card::phase_number))]
+    fn is_closed(&self) -> bool {
+        matches!(self, CardPhase::Closed(_))
+    }
+
+    #[tactic(auto, unfolding(crate::specs::Card::phase_number))]
+    fn is(&self, due: &CardPhase) -> bool {
+        self == due
     }
 }
 
 // What stands before ρ in every string that is hashed in the session.
+#[tactic(auto, unfolding(crate::specs::Card::card_domain))]
 pub fn card_domain(card: Card) -> Domain
     ensures { result ≡ card_domain card }
 {
-    let scheme = card.scheme;
-    Domain { scheme: scheme }
+    Domain {
+        scheme: card.scheme,
+    }
 }
 
 // No ρ lent.
+#[tactic(auto, unfolding(crate::specs::Card::no_rhos, slices::specs::Slices::zeros))]
 pub fn no_rhos() -> Rhos
     ensures { result ≡ no_rhos }
 {
@@ -75,6 +73,7 @@ pub fn no_rhos() -> Rhos
 }
 
 // Nothing lent.
+#[tactic(auto, unfolding(crate::specs::Card::no_lent, slices::specs::Slices::zeros))]
 pub fn no_lent() -> Lent
     ensures { result ≡ no_lent }
 {
@@ -87,6 +86,7 @@ pub fn no_lent() -> Lent
 }
 
 // A closed session: zeros, and the first scheme.
+#[tactic(auto, unfolding(crate::specs::Card::closed_card, slices::specs::Slices::zeros))]
 pub fn closed_card() -> Card
     ensures { result ≡ closed_card }
 {
@@ -108,44 +108,33 @@ pub fn closed_card() -> Card
 }
 
 // The same session in another phase and round, with what is lent for it.
+#[tactic(auto, unfolding(crate::specs::Card::card_with))]
 pub fn card_with(card: Card, phase: CardPhase, round: u8, l: Lent, e1: [u8; 96]) -> Card
     ensures { result ≡ card_with card phase round l e1 }
 {
-    let scheme = card.scheme;
-    let s = card.s;
-    let r0 = l.r0;
-    let t0 = l.t0;
-    let e0 = l.e0;
-    let rhos = l.rhos;
+    let (r0, t0, e0) = (l.r0, l.t0, l.e0);
     Card {
-        phase: phase,
-        scheme: scheme,
-        q: card.q,
-        n: card.n,
-        m: card.m,
-        rounds: card.rounds,
-        round: round,
-        s: s,
-        r0: r0,
-        t0: t0,
-        e0: e0,
-        e1: e1,
-        rhos: rhos,
+        phase,
+        round,
+        r0,
+        t0,
+        e0,
+        e1,
+        rhos: l.rhos,
+        ..card
     }
 }
 
 // What is lent for the round, as the card holds it.
+#[tactic(auto, unfolding(crate::specs::Card::held_lent))]
 pub fn held_lent(card: Card) -> Lent
     ensures { result ≡ held_lent card }
 {
-    let r0 = card.r0;
-    let t0 = card.t0;
-    let e0 = card.e0;
-    let rhos = card.rhos;
+    let (r0, t0, e0) = (card.r0, card.t0, card.e0);
     Lent {
-        r0: r0,
-        t0: t0,
-        e0: e0,
-        rhos: rhos,
+        r0,
+        t0,
+        e0,
+        rhos: card.rhos,
     }
 }

@@ -1,6 +1,5 @@
 // The judgement of a round.
 ghost use Rattle.std.specs.Prelude.{◌≡◌};
-ghost use Rattle.system.specs.System.{system_refusal};
 ghost use Rattle.exchange.specs.Messages.{accepts};
 
 use crate::read::{read_middle, read_reply_five, read_reply_three};
@@ -8,24 +7,23 @@ use commitment::Domain;
 use judgement::{accepts_five, accepts_three};
 use scheme::Scheme;
 use slices::byte_at;
+use system::System;
 
 // Whether a round of the domain's scheme is accepted; `turn` is α, t1 and e1 of five passes, and is not looked at in three.
-pub fn judge<'a>(
-    system: &'a [u8],
+pub fn judge(
+    system: &System,
     d: Domain,
     v: [u8; 96],
-    commitments: &'a [u8],
-    turn: &'a [u8],
+    commitments: &[u8],
+    turn: &[u8],
     challenge: u8,
-    reply: &'a [u8],
+    reply: &[u8],
 ) -> bool
-    requires { system_refusal system.now ≡ 0 }
-    ensures { result ≡ accepts system.now d v commitments.now turn.now challenge reply.now }
+    ensures { result ≡ accepts system.now.bytes.now d v commitments.now turn.now challenge reply.now }
 {
-    let n = byte_at(system, 1);
-    let m = byte_at(system, 2);
-    let scheme = d.scheme;
-    match scheme {
+    let n = system.n();
+    let m = system.m();
+    match d.scheme {
         Scheme::ThreePass => {
             let sent = read_reply_three(reply, n, m);
             accepts_three(system, d, v, commitments, challenge, sent)

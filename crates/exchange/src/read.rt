@@ -1,4 +1,4 @@
-// Messages taken apart.
+// Messages taken apart. Each has parts of its own: one generic form would be a trait with a body for each message, no plainer.
 ghost use Rattle.std.specs.Prelude.{◌≡◌};
 ghost use Rattle.exchange.specs.Messages.{lent_in, middle_in, reply_three_in, reply_five_in};
 
@@ -66,6 +66,6 @@ pub fn read_lent(s: &[u8], n: u8, m: u8) -> Lent
         r0: slot(s, 0, n),
         t0: slot(s, after_r0, n),
         e0: slot(s, after_t0, m),
-        rhos: rhos,
+        rhos,
     }
 }

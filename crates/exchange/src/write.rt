@@ -1,4 +1,4 @@
-// Messages put together in a lent output of their length.
+// Messages put together in a lent output of their length. As in reading, a trait would have a body for each message, no plainer.
 ghost use Rattle.std.specs.Prelude.{◌≡◌, ◌+◌, ◌≤◌, length, take};
 ghost use Rattle.slices.specs.Slices.{placed};
 ghost use Rattle.scheme.specs.declared.Scheme.TheVariants.{ThreePass, FivePass};
@@ -29,12 +29,9 @@ pub fn write_three_commitments(c: CommitmentsThree, out: &mut [u8])
     requires { length out.old ≡ commitments_length ThreePass }
     ensures { out.new ≡ three_commitments c }
 {
-    let c0 = c.c0;
-    let c1 = c.c1;
-    let c2 = c.c2;
-    put_bytes(out, 0, c0);
-    put_bytes(out, 32, c1);
-    put_bytes(out, 64, c2);
+    put_bytes(out, 0, c.c0);
+    put_bytes(out, 32, c.c1);
+    put_bytes(out, 64, c.c2);
 }
 
 // A reply of three passes.
@@ -45,16 +42,11 @@ pub fn write_reply_three(r: ReplyThree, n: u8, m: u8, out: &mut [u8])
     let after_x = n as usize;
     let after_y = after_x + n as usize;
     let after_z = after_y + m as usize;
-    let x = r.x;
-    let y = r.y;
-    let z = r.z;
-    let first = r.first;
-    let second = r.second;
-    put_vector(out, 0, x, n);
-    put_vector(out, after_x, y, n);
-    put_vector(out, after_y, z, m);
-    put_bytes(out, after_z, first);
-    put_bytes(out, after_z + 32, second);
+    put_vector(out, 0, r.x, n);
+    put_vector(out, after_x, r.y, n);
+    put_vector(out, after_y, r.z, m);
+    put_bytes(out, after_z, r.first);
+    put_bytes(out, after_z + 32, r.second);
 }
 
 // c0 and c1 of five passes.
@@ -62,10 +54,8 @@ pub fn write_five_commitments(c: CommitmentsFive, out: &mut [u8])
     requires { length out.old ≡ commitments_length FivePass }
     ensures { out.new ≡ five_commitments c }
 {
-    let c0 = c.c0;
-    let c1 = c.c1;
-    put_bytes(out, 0, c0);
-    put_bytes(out, 32, c1);
+    put_bytes(out, 0, c.c0);
+    put_bytes(out, 32, c.c1);
 }
 
 // t1 and e1.
@@ -73,10 +63,8 @@ pub fn write_middle(sent: Middle, n: u8, m: u8, out: &mut [u8])
     requires { (n ≤ 96) × (m ≤ 96) × (length out.old ≡ n + m) }
     ensures { out.new ≡ middle_bytes n m sent }
 {
-    let t1 = sent.t1;
-    let e1 = sent.e1;
-    put_vector(out, 0, t1, n);
-    put_vector(out, n as usize, e1, m);
+    put_vector(out, 0, sent.t1, n);
+    put_vector(out, n as usize, sent.e1, m);
 }
 
 // A reply of five passes.
@@ -84,8 +72,6 @@ pub fn write_reply_five(r: ReplyFive, n: u8, out: &mut [u8])
     requires { (n ≤ 96) × (length out.old ≡ n + rhos_length FivePass) }
     ensures { out.new ≡ reply_five_bytes n r }
 {
-    let x = r.x;
-    let rho = r.rho;
-    put_vector(out, 0, x, n);
-    put_bytes(out, n as usize, rho);
+    put_vector(out, 0, r.x, n);
+    put_bytes(out, n as usize, r.rho);
 }

@@ -9,6 +9,9 @@ use Rattle.commitment.specs.declared.Domain.{Domain}
 use Rattle.commitment.specs.declared.Text.{Text}
 use Rattle.commitment.specs.Texts.{content, TextOf}
 use Rattle.commitment.proofs.Texts.{content_is}
+use Rattle.round.specs.declared.pieces.ReplyThree.{ReplyThree}
+use Rattle.round.specs.ThreePass.{openings_three}
+use Rattle.round.proofs.Clauses.{three_are_two}
 use Rattle.round.specs.Openings.{Opening, string_of, commitment_at, opens_to, all_open, opening_at}
 
 and-true : (a : Bool) → a ≡ (a && true)
@@ -30,9 +33,28 @@ module _ (d : Domain) (c : List ℕ) where
   unfolding all_open
   one_opens os one t k h number = judged (opening_at os 0) 0 t k h number ∙ and-true _ ∙ ap (all_open d c) (sym one)
 
-  pub both_open : (os : List Opening) → os ≡ opening_at os 0 ∷ opening_at os 1 ∷ [] → (t u : Text) (j k : ℕ) →
+  both_open : (os : List Opening) → os ≡ opening_at os 0 ∷ opening_at os 1 ∷ [] → (t u : Text) (j k : ℕ) →
       TextOf (string_of d (opening_at os 0)) 96 t → TextOf (string_of d (opening_at os 1)) 96 u → j ≡ (opening_at os 0).k → k ≡ (opening_at os 1).k →
       (tested t j && tested u k) ≡ all_open d c os
   unfolding all_open
   both_open os two t u j k ht hu first second =
       ap₂ ◌&&◌ (judged (opening_at os 0) 96 t j ht first) (judged (opening_at os 1) 96 u k hu second ∙ and-true _) ∙ ap (all_open d c) (sym two)
+
+  -- the two tests of three passes, where the first holds and where it fails
+  module _ (b v : List ℕ) (challenge : ℕ) (r : ReplyThree) (t u : Text) (j k : ℕ) where
+    abbrev opening : ℕ → Opening
+    opening i = opening_at (openings_three b v challenge r) i
+
+    both_tested : TextOf (string_of d (opening 0)) 96 t → TextOf (string_of d (opening 1)) 96 u → j ≡ (opening 0).k → k ≡ (opening 1).k →
+        (tested t j && tested u k) ≡ all_open d c (openings_three b v challenge r)
+    both_tested ht hu first second = both_open (openings_three b v challenge r) (three_are_two b v challenge r) t u j k ht hu first second
+
+    pub second_decides : TextOf (string_of d (opening 0)) 96 t → TextOf (string_of d (opening 1)) 96 u → j ≡ (opening 0).k → k ≡ (opening 1).k →
+        (x y : Bool) → x ≡ true → x ≡ tested t j → y ≡ tested u k → y ≡ all_open d c (openings_three b v challenge r)
+    second_decides ht hu first second x y holds one two =
+        two ∙ ap (λ (test : Bool). test && tested u k) (sym holds ∙ one) ∙ both_tested ht hu first second
+
+    pub first_decides : TextOf (string_of d (opening 0)) 96 t → TextOf (string_of d (opening 1)) 96 u → j ≡ (opening 0).k → k ≡ (opening 1).k →
+        (x : Bool) → x ≡ false → x ≡ tested t j → x ≡ all_open d c (openings_three b v challenge r)
+    first_decides ht hu first second x fails one =
+        fails ∙ ap (λ (test : Bool). test && tested u k) (sym fails ∙ one) ∙ both_tested ht hu first second

@@ -38,8 +38,9 @@ filled_row o n i k x y z row part within len e filled d h =
     ap₂ (λ (a b : ℕ). o.add (o.mul (x ! i) a) (o.mul (z ! i) b)) (part_at y i n d h) (part_at x i n d h)
 
 pub rows_step : (o : Ops) (n i at k : ℕ) (x y z row part : List ℕ) → at ≡ triangle n i → at ≤ length row → Rows o n i x y z row →
-    (len : ℕ) → len ≡ n - i → part ≡ tabulate len (combined o n i x y z) → Rows o n (i + 1) x y z (put_mid at k row part)
-rows_step o n i at k x y z row part start within rows len e filled j d h l =
+    (end : ℕ) → end ≡ n → (len : ℕ) → len ≡ n - i → part ≡ tabulate len (combined o end i x y z) → Rows o n (i + 1) x y z (put_mid at k row part)
+rows_step o n i at k x y z row part start within rows end whole len e combines j d h l =
+    let filled = rw whole at combines in
     let inside : triangle n i ≤ length row = rw (← start) within in
     rw start
     (⊎_elim (λ (same : j ≡ i). rw same (filled_row o n i k x y z row part inside len e filled d (rw (← same) l)))

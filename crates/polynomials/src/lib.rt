@@ -7,11 +7,11 @@
 
 ghost use Rattle.std.specs.Prelude.{◌≡◌, ◌≤◌, length};
 ghost use Rattle.field.specs.Ops.{ops};
-ghost use Rattle.system.specs.System.{system_refusal, F, G};
+ghost use Rattle.system.specs.System.{F, G};
 ghost use Rattle.polynomials.specs.Monomials.{Monomials, times_row};
 
 use rows::{combine, dot};
-use system::width;
+use system::{System, width};
 
 // Fills the row with the monomials of x, y, z and t in the stored order of coefficients: 4,752 for 96 unknowns, the most.
 // `sparse` says that z is 0, and only saves time.
@@ -28,10 +28,9 @@ fn monomials(
     requires { (n ≤ 96) × (length row.old ≡ 4752) }
     ensures { Monomials (ops q) n x y z t row.new }
 {
-    let end = n as usize;
+    let end = usize::from(n);
     let mut at = 0;
-    let mut i = 0;
-    while i < end {
+    for i in 0..end {
         let next = at + (end - i);
         combine(
             q,
@@ -43,46 +42,38 @@ fn monomials(
             sparse,
         );
         at = next;
-        i += 1;
     }
     row[at..at + end].copy_from_slice(&t[..end]);
 }
 
 // Each polynomial's coefficients times the monomials.
-fn products<'a>(system: &'a [u8], row: &'a [u8]) -> [u8; 96]
-    requires { (system_refusal system.now ≡ 0) × (length row.now ≡ 4752) }
-    ensures { result ≡ times_row system.now row.now }
+fn products(system: &System, row: &[u8]) -> [u8; 96]
+    requires { length row.now ≡ 4752 }
+    ensures { result ≡ times_row system.now.bytes.now row.now }
 {
     let mut out = [0; 96];
-    let w = width(system[1]);
-    let m = system[2] as usize;
-    let mut at = 3;
-    let mut l = 0;
-    while l < m {
-        let next = at + w;
-        out[l] = dot(system[0], &system[at..next], row);
-        at = next;
-        l += 1;
+    let w = width(system.n());
+    for l in 0..usize::from(system.m()) {
+        let at = 3 + l * w;
+        out[l] = dot(system.q(), &system.bytes[at..at + w], row);
     }
     out
 }
 
 // F(x).
-pub fn f(system: &[u8], x: [u8; 96]) -> [u8; 96]
-    requires { system_refusal system.now ≡ 0 }
-    ensures { result ≡ F system.now x }
+pub fn f(system: &System, x: [u8; 96]) -> [u8; 96]
+    ensures { result ≡ F system.now.bytes.now x }
 {
     let mut row = [0; 4752];
-    monomials(system[0], system[1], x, x, [0; 96], x, true, &mut row);
+    monomials(system.q(), system.n(), x, x, [0; 96], x, true, &mut row);
     products(system, &row)
 }
 
 // G(x, y).
-pub fn g(system: &[u8], x: [u8; 96], y: [u8; 96]) -> [u8; 96]
-    requires { system_refusal system.now ≡ 0 }
-    ensures { result ≡ G system.now x y }
+pub fn g(system: &System, x: [u8; 96], y: [u8; 96]) -> [u8; 96]
+    ensures { result ≡ G system.now.bytes.now x y }
 {
     let mut row = [0; 4752];
-    monomials(system[0], system[1], x, y, y, [0; 96], false, &mut row);
+    monomials(system.q(), system.n(), x, y, y, [0; 96], false, &mut row);
     products(system, &row)
 }

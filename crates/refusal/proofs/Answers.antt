@@ -1,9 +1,9 @@
 -- Chains of answers that end at the first refusal. Assumes nothing.
-use Rattle.std.specs.Prelude.{ℕ, Result, Ok, Err}
+use Rattle.std.specs.Prelude.{ℕ, Result, Err}
 use mathlib.Core.Path.{◌≡◌, refl, sym, ◌∙◌}
 use Rattle.refusal.specs.declared.Refusal.{Refusal}
 use Rattle.refusal.specs.declared.Refusal.TheVariants.{Value, Length, Element, Challenge, Secret, Form, Mismatch, Rejected, NoFullSet, NotDue, Closed, LabelHalf, LabelOrder}
-use Rattle.refusal.specs.Refusal.{number, number_of, ◌or_else◌}
+use Rattle.refusal.specs.Refusal.{number, number_of, kept, ◌or_else◌}
 use Rattle.refusal.proofs.Refusals.{later_decides}
 
 -- a refusal has a number of its own, so it decides
@@ -35,3 +35,27 @@ ends_chain answer refusal here rest handed is = rw (handed, sym is) (sym (refusa
 -- one that does not leaves it to the rest
 pub goes_on_chain : (answer here rest : ℕ) → 0 ≡ here → answer ≡ rest → answer ≡ (here or_else rest)
 goes_on_chain answer here rest none later = rw (sym none) (later ∙ sym (none_decides rest))
+
+-- what is refused stays
+pub refused_kept : {A : Type 0} (refusal : Refusal) (old new : A) → kept (number refusal) old new ≡ old
+unfolding kept
+refused_kept Value old new = refl
+refused_kept Length old new = refl
+refused_kept Element old new = refl
+refused_kept Challenge old new = refl
+refused_kept Secret old new = refl
+refused_kept Form old new = refl
+refused_kept Mismatch old new = refl
+refused_kept Rejected old new = refl
+refused_kept NoFullSet old new = refl
+refused_kept NotDue old new = refl
+refused_kept Closed old new = refl
+refused_kept LabelHalf old new = refl
+refused_kept LabelOrder old new = refl
+
+pub none_kept : {A : Type 0} (old new : A) → kept 0 old new ≡ new
+unfolding kept
+none_kept old new = refl
+
+-- what a chain of answers needs, and a call of one branch for each
+pub ruleset chain = (refusal_decides, none_decides, refused_kept, none_kept)

@@ -1,7 +1,8 @@
 -- What is opened, by what a match knows of the challenge. Assumes nothing.
-use Prim.Native.Nat.{ℕ, zero, suc}
+use Prim.Native.Nat.{ℕ, zero, suc, ◌≤◌}
 use mathlib.Core.Path.{◌≡◌, refl}
 use mathlib.Core.List.{List, [], ◌∷◌}
+use native.Mathlib.Omega.{arith}
 use Rattle.round.specs.declared.pieces.Middle.{Middle}
 use Rattle.round.specs.declared.pieces.ReplyThree.{ReplyThree}
 use Rattle.round.specs.declared.pieces.ReplyFive.{ReplyFive}
@@ -23,6 +24,14 @@ unfolding openings_three opening_at with_two
 first_of_c0 b v zero r not_0 = absurd (not_0 refl)
 first_of_c0 b v (suc zero) r not_0 = refl
 first_of_c0 b v (suc (suc k)) r not_0 = refl
+
+-- 0 or 1: the second opening is of c2
+pub second_of_c2 : (b v : List ℕ) (challenge : ℕ) (r : ReplyThree) → challenge ≤ 1 →
+    opening_at (openings_three b v challenge r) 1 ≡ with_two b 2 r.second r.y r.z
+unfolding openings_three opening_at
+second_of_c2 b v zero r below = refl
+second_of_c2 b v (suc zero) r below = refl
+second_of_c2 b v (suc (suc k)) r below = absurd (omega arith)
 
 -- two openings, whatever the challenge
 pub three_are_two : (b v : List ℕ) (challenge : ℕ) (r : ReplyThree) →

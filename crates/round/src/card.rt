@@ -2,7 +2,6 @@
 ghost use Rattle.std.specs.Prelude.{◌≡◌};
 ghost use Rattle.field.specs.Ops.{ops};
 ghost use Rattle.field.specs.Vector.{sub_v};
-ghost use Rattle.system.specs.System.{system_refusal};
 ghost use Rattle.protocol.specs.Protocols.{r1_of, t1_of, card_three, unmasked, simulated_e1, simulated_mask, simulated as simulated_of};
 ghost use Rattle.protocol.specs.Rounds.{map_of};
 ghost use Rattle.round.specs.Pieces.{vectors_of};
@@ -11,7 +10,7 @@ ghost use Rattle.round.specs.FivePass.{middle_five};
 use crate::pieces::{Middle, Vectors};
 use field::{add_vectors, mul_vector, sub_vectors};
 use polynomials::{f, g};
-use slices::byte_at;
+use system::System;
 
 // r1 = s - r0.
 pub fn r1_of(q: u8, n: u8, s: [u8; 96], r0: [u8; 96]) -> [u8; 96]
@@ -28,33 +27,31 @@ pub fn t1_of(q: u8, n: u8, r0: [u8; 96], t0: [u8; 96]) -> [u8; 96]
 }
 
 // Three passes: r1, t1, e1 and c0's second vector.
-pub fn card_three(system: &[u8], s: [u8; 96], r0: [u8; 96], t0: [u8; 96], e0: [u8; 96]) -> Vectors
-    requires { system_refusal system.now ≡ 0 }
-    ensures { vectors_of result ≡ card_three (map_of system.now) s r0 t0 e0 }
+pub fn card_three(system: &System, s: [u8; 96], r0: [u8; 96], t0: [u8; 96], e0: [u8; 96]) -> Vectors
+    ensures { vectors_of result ≡ card_three (map_of system.now.bytes.now) s r0 t0 e0 }
 {
-    let q = byte_at(system, 0);
-    let n = byte_at(system, 1);
-    let m = byte_at(system, 2);
+    let q = system.q();
+    let n = system.n();
+    let m = system.m();
     let r1 = r1_of(q, n, s, r0);
     Vectors {
-        r0: r0,
-        r1: r1,
-        t0: t0,
+        r0,
+        r1,
+        t0,
         t1: t1_of(q, n, r0, t0),
-        e0: e0,
+        e0,
         e1: sub_vectors(q, m, f(system, r0), e0),
         mask: add_vectors(q, m, g(system, t0, r1), e0),
     }
 }
 
 // Five passes: t1 and e1 for α.
-pub fn middle(system: &[u8], alpha: u8, r0: [u8; 96], t0: [u8; 96], e0: [u8; 96]) -> Middle
-    requires { system_refusal system.now ≡ 0 }
-    ensures { result ≡ middle_five system.now alpha r0 t0 e0 }
+pub fn middle(system: &System, alpha: u8, r0: [u8; 96], t0: [u8; 96], e0: [u8; 96]) -> Middle
+    ensures { result ≡ middle_five system.now.bytes.now alpha r0 t0 e0 }
 {
-    let q = byte_at(system, 0);
-    let n = byte_at(system, 1);
-    let m = byte_at(system, 2);
+    let q = system.q();
+    let n = system.n();
+    let m = system.m();
     Middle {
         t1: sub_vectors(q, n, mul_vector(q, n, alpha, r0), t0),
         e1: sub_vectors(q, m, mul_vector(q, m, alpha, f(system, r0)), e0),
@@ -62,30 +59,28 @@ pub fn middle(system: &[u8], alpha: u8, r0: [u8; 96], t0: [u8; 96], e0: [u8; 96]
 }
 
 // v - F(r1) - G(t1,r1) - e1, with which challenge 1 opens c0.
-pub fn unmask(system: &[u8], v: [u8; 96], r1: [u8; 96], t1: [u8; 96], e1: [u8; 96]) -> [u8; 96]
-    requires { system_refusal system.now ≡ 0 }
-    ensures { result ≡ unmasked (map_of system.now) v r1 t1 e1 }
+pub fn unmask(system: &System, v: [u8; 96], r1: [u8; 96], t1: [u8; 96], e1: [u8; 96]) -> [u8; 96]
+    ensures { result ≡ unmasked (map_of system.now.bytes.now) v r1 t1 e1 }
 {
-    let q = byte_at(system, 0);
-    let m = byte_at(system, 2);
+    let q = system.q();
+    let m = system.m();
     let left = sub_vectors(q, m, v, f(system, r1));
     sub_vectors(q, m, sub_vectors(q, m, left, g(system, t1, r1)), e1)
 }
 
 // The simulator's e1; `unanswered` is Ch*, the challenge that is not answered.
 fn simulated_e1(
-    system: &[u8],
+    system: &System,
     unanswered: u8,
     v: [u8; 96],
     s: [u8; 96],
     r0: [u8; 96],
     e0: [u8; 96],
 ) -> [u8; 96]
-    requires { system_refusal system.now ≡ 0 }
-    ensures { result ≡ simulated_e1 (map_of system.now) unanswered v s r0 e0 }
+    ensures { result ≡ simulated_e1 (map_of system.now.bytes.now) unanswered v s r0 e0 }
 {
-    let q = byte_at(system, 0);
-    let m = byte_at(system, 2);
+    let q = system.q();
+    let m = system.m();
     match unanswered {
         0 => {
             let left = sub_vectors(q, m, v, f(system, s));
@@ -97,7 +92,7 @@ fn simulated_e1(
 
 // What the simulator commits to beside r1.
 fn simulated_mask(
-    system: &[u8],
+    system: &System,
     unanswered: u8,
     v: [u8; 96],
     r1: [u8; 96],
@@ -106,11 +101,10 @@ fn simulated_mask(
     e0: [u8; 96],
     e1: [u8; 96],
 ) -> [u8; 96]
-    requires { system_refusal system.now ≡ 0 }
-    ensures { result ≡ simulated_mask (map_of system.now) unanswered v r1 t0 t1 e0 e1 }
+    ensures { result ≡ simulated_mask (map_of system.now.bytes.now) unanswered v r1 t0 t1 e0 e1 }
 {
-    let q = byte_at(system, 0);
-    let m = byte_at(system, 2);
+    let q = system.q();
+    let m = system.m();
     match unanswered {
         2 => unmask(system, v, r1, t1, e1),
         _ => add_vectors(q, m, g(system, t0, r1), e0),
@@ -119,7 +113,7 @@ fn simulated_mask(
 
 // The simulator's vectors, formed without the secret.
 pub fn simulated(
-    system: &[u8],
+    system: &System,
     unanswered: u8,
     v: [u8; 96],
     s: [u8; 96],
@@ -127,21 +121,20 @@ pub fn simulated(
     t0: [u8; 96],
     e0: [u8; 96],
 ) -> Vectors
-    requires { system_refusal system.now ≡ 0 }
-    ensures { vectors_of result ≡ simulated_of (map_of system.now) unanswered v s r0 t0 e0 }
+    ensures { vectors_of result ≡ simulated_of (map_of system.now.bytes.now) unanswered v s r0 t0 e0 }
 {
-    let q = byte_at(system, 0);
-    let n = byte_at(system, 1);
+    let q = system.q();
+    let n = system.n();
     let r1 = r1_of(q, n, s, r0);
     let t1 = t1_of(q, n, r0, t0);
     let e1 = simulated_e1(system, unanswered, v, s, r0, e0);
     Vectors {
-        r0: r0,
-        r1: r1,
-        t0: t0,
-        t1: t1,
-        e0: e0,
-        e1: e1,
+        r0,
+        r1,
+        t0,
+        t1,
+        e0,
+        e1,
         mask: simulated_mask(system, unanswered, v, r1, t0, t1, e0, e1),
     }
 }

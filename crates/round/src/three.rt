@@ -1,6 +1,5 @@
 // Three passes: the commitments, the reply to a challenge, and the strings with which a reply opens two of them.
 ghost use Rattle.std.specs.Prelude.{ℕ, ◌≡◌, List};
-ghost use Rattle.system.specs.System.{system_refusal};
 ghost use Rattle.commitment.specs.Texts.{Room, TextOf};
 ghost use Rattle.round.specs.declared.pieces.ReplyThree.{ReplyThree as ReplyThree·};
 ghost use Rattle.round.specs.Pieces.{vectors_of};
@@ -12,25 +11,16 @@ use crate::pieces::{CommitmentsThree, ReplyThree, Rhos, Vectors};
 use commitment::{Domain, Text, digest, string_two};
 use field::{add_vectors, sub_vectors};
 use polynomials::{f, g};
-use slices::byte_at;
+use system::System;
 
 // c0, c1 and c2.
 pub fn commitments_three(d: Domain, n: u8, m: u8, w: Vectors, rhos: Rhos) -> CommitmentsThree
     ensures { result ≡ commitments_three d n m (vectors_of w) rhos }
 {
-    let r1 = w.r1;
-    let t0 = w.t0;
-    let t1 = w.t1;
-    let e0 = w.e0;
-    let e1 = w.e1;
-    let mask = w.mask;
-    let rho0 = rhos.rho0;
-    let rho1 = rhos.rho1;
-    let rho2 = rhos.rho2;
     CommitmentsThree {
-        c0: digest(string_two(d, 0, rho0, r1, n, mask, m)),
-        c1: digest(string_two(d, 1, rho1, t0, n, e0, m)),
-        c2: digest(string_two(d, 2, rho2, t1, n, e1, m)),
+        c0: digest(string_two(d, 0, rhos.rho0, w.r1, n, w.mask, m)),
+        c1: digest(string_two(d, 1, rhos.rho1, w.t0, n, w.e0, m)),
+        c2: digest(string_two(d, 2, rhos.rho2, w.t1, n, w.e1, m)),
     }
 }
 
@@ -38,15 +28,16 @@ pub fn commitments_three(d: Domain, n: u8, m: u8, w: Vectors, rhos: Rhos) -> Com
 pub fn reply_three(w: Vectors, rhos: Rhos, challenge: u8) -> ReplyThree
     ensures { result ≡ reply_three (vectors_of w) rhos challenge }
 {
-    let r0 = w.r0;
-    let r1 = w.r1;
-    let t0 = w.t0;
-    let t1 = w.t1;
-    let e0 = w.e0;
-    let e1 = w.e1;
-    let rho0 = rhos.rho0;
-    let rho1 = rhos.rho1;
-    let rho2 = rhos.rho2;
+    let Vectors {
+        r0,
+        r1,
+        t0,
+        t1,
+        e0,
+        e1,
+        ..
+    } = w;
+    let Rhos { rho0, rho1, rho2 } = rhos;
     match challenge {
         0 => ReplyThree {
             x: r0,
@@ -84,22 +75,24 @@ pub fn first_number(challenge: u8) -> u8
 
 // The string of the first opening: of c1 for challenge 0, else of c0.
 pub fn first_opening(
-    system: &[u8],
+    system: &System,
     d: Domain,
     v: [u8; 96],
     challenge: u8,
     reply: ReplyThree,
 ) -> Text
-    requires { system_refusal system.now ≡ 0 }
-    ensures { TextOf (string_of d (opening_at (openings_three system.now v challenge reply) 0)) 96 result }
+    ensures { TextOf (string_of d (opening_at (openings_three system.now.bytes.now v challenge reply) 0)) 96 result }
 {
-    let q = byte_at(system, 0);
-    let n = byte_at(system, 1);
-    let m = byte_at(system, 2);
-    let x = reply.x;
-    let y = reply.y;
-    let z = reply.z;
-    let rho = reply.first;
+    let q = system.q();
+    let n = system.n();
+    let m = system.m();
+    let ReplyThree {
+        x,
+        y,
+        z,
+        first: rho,
+        ..
+    } = reply;
     match challenge {
         0 => {
             let t0 = sub_vectors(q, n, x, y);
@@ -115,17 +108,19 @@ pub fn first_opening(
 }
 
 // The string of the second opening, whatever v: of c1 for challenge 2, else of c2.
-pub fn second_opening(system: &[u8], d: Domain, challenge: u8, reply: ReplyThree) -> Text
-    ensures { Room 96 result × ((v : List ℕ) → TextOf (string_of d (opening_at (openings_three system.now v challenge reply) 1)) 96 result) }
+pub fn second_opening(system: &System, d: Domain, challenge: u8, reply: ReplyThree) -> Text
+    ensures { Room 96 result × ((v : List ℕ) → TextOf (string_of d (opening_at (openings_three system.now.bytes.now v challenge reply) 1)) 96 result) }
 {
-    let n = byte_at(system, 1);
-    let m = byte_at(system, 2);
-    let y = reply.y;
-    let z = reply.z;
-    let rho = reply.second;
+    let n = system.n();
+    let m = system.m();
+    let ReplyThree {
+        y,
+        z,
+        second: rho,
+        ..
+    } = reply;
     match challenge {
-        0 => string_two(d, 2, rho, y, n, z, m),
-        1 => string_two(d, 2, rho, y, n, z, m),
+        0 | 1 => string_two(d, 2, rho, y, n, z, m),
         _ => string_two(d, 1, rho, y, n, z, m),
     }
 }

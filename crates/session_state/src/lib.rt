@@ -2,8 +2,8 @@
 // count of rounds.
 #![tactic(auto)]
 
-ghost use Rattle.std.specs.Prelude.{ℕ, ◌≡◌, eqb};
-ghost use Rattle.refusal.specs.Refusal.{number_of, kept};
+ghost use Rattle.std.specs.Prelude.{ℕ, ◌≡◌, eqb, Ok, Err};
+ghost use Rattle.refusal.specs.Refusal.{number_of};
 ghost use Rattle.session_state.specs.State.{state_refusal, next_count};
 
 use refusal::{Refusal, require};
@@ -24,15 +24,16 @@ pub struct Answered<S, T> {
 }
 
 // A session's phase: which call is due, or that the session is closed.
-pub trait Phase: PartialEq + Drop {
+pub trait Phase: Drop {
     // The due call by number, 0 for a closed session.
     ghost number: { Self → ℕ };
 
     fn is_closed(&self) -> bool
         ensures { result ≡ eqb (number self.now) 0 };
 
-    // The phases in which a call is due are told apart as their numbers are.
-    ghost told_apart: { (phase due : Self) → (number phase ≡ 0 → ⊥) → Self.eq phase due ≡ eqb (number phase) (number due) };
+    // Whether this call is due; of a closed session it is not asked.
+    fn is(&self, due: &Self) -> bool
+        ensures { (number self.now ≡ 0 → ⊥) → result ≡ eqb (number self.now) (number due.now) };
 }
 
 // 11 for a closed session, 10 for a call that is not due.
@@ -43,17 +44,31 @@ pub fn require_due<P: Phase>(phase: P, due: P) -> Result<(), Refusal>
     if phase.is_closed() {
         return Err(Refusal::Closed);
     }
-    require(phase == due, Refusal::NotDue)
+    require(phase.is(&due), Refusal::NotDue)
 }
 
-// What is refused hands back the old session.
-#[tactic(auto, unfolding(refusal::specs::Refusal::kept))]
-pub fn hand_back<S: Drop>(answer: Result<(), Refusal>, old: S, new: S) -> Answered<S, ()>
-    ensures answer { result.answer ≡ answer }
-    ensures session { result.session ≡ kept (number_of answer) old new }
-{
-    let session = if answer.is_ok() { new } else { old };
-    Answered { answer, session }
+impl<S: Drop, T: Drop> Answered<S, T> {
+    // A call that is not refused.
+    pub fn done(value: T, session: S) -> Answered<S, T>
+        ensures answer { result.answer ≡ Ok value }
+        ensures session { result.session ≡ session }
+    {
+        Answered {
+            answer: Ok(value),
+            session,
+        }
+    }
+
+    // One that is.
+    pub fn refused(refusal: Refusal, session: S) -> Answered<S, T>
+        ensures answer { result.answer ≡ Err refusal }
+        ensures session { result.session ≡ session }
+    {
+        Answered {
+            answer: Err(refusal),
+            session,
+        }
+    }
 }
 
 // One round more; a byte tells no more than 255.

@@ -1,10 +1,11 @@
 -- The test `same` and equality of lists. Assumes nothing.
 use Prim.Native.Nat.{ℕ, ◌+◌, ◌<◌}
 use mathlib.Core.Path.{◌≡◌, refl, sym, ap, ap₂, ◌∙◌}
-use mathlib.Core.Bool.{Bool, true, false, false≢true}
+use mathlib.Core.Bool.{Bool, true, false, false≢true, ◌&&◌}
 use mathlib.Core.List.{List, [], ◌∷◌}
 use lib.Dec.{eqb}
 use lib.ListN.{length}
+use lib.Pointwise.{pointwise}
 use lib.Seq.{ext_get_or}
 use borrow.Author.Count.{below_none, below_more}
 use borrow.Author.Tests.{eqb-true, eq-eqb}
@@ -22,6 +23,14 @@ same_true [] [] e = refl
 same_true [] (y ∷ k) e = absurd (false≢true e)
 same_true (x ∷ l) [] e = absurd (false≢true e)
 same_true (x ∷ l) (y ∷ k) e = ap₂ ◌∷◌ (eqb-true x y (and_left (eqb x y) (same l k) e)) (same_true l k (and_right (eqb x y) (same l k) e))
+
+-- what `==` of two arrays or slices of bytes answers
+pub pointwise_same : (l k : List ℕ) → pointwise eqb l k ≡ same l k
+unfolding same
+pointwise_same [] [] = refl
+pointwise_same [] (y ∷ k) = refl
+pointwise_same (x ∷ l) [] = refl
+pointwise_same (x ∷ l) (y ∷ k) = ap (λ (rest : Bool). eqb x y && rest) (pointwise_same l k)
 
 pub same_by : (l k : List ℕ) → l ≡ k → same l k ≡ true
 same_by l k e = rw e (same_refl k)

@@ -9,17 +9,24 @@ ghost use Rattle.slices.specs.Slices.{◌!◌, tabulate, same, placed, word as w
 pub fn byte_at(s: &[u8], i: usize) -> u8
     ensures { result ≡ s.now ! i }
 {
-    if i < s.len() { s[i] } else { 0 }
+    s.get(i).copied().unwrap_or(0)
+}
+
+// The N bytes from `at` on, zero beyond the end.
+pub fn bytes_at<const N: usize>(s: &[u8], at: usize) -> [u8; N]
+    ensures { result ≡ tabulate N (λ i. s.now ! (at + i)) }
+{
+    let mut out = [0; N];
+    let found = part(s, at, N);
+    out[..found.len()].copy_from_slice(found);
+    out
 }
 
 // The 32 bytes from `at` on, zero beyond the end.
 pub fn bytes32(s: &[u8], at: usize) -> [u8; 32]
     ensures { result ≡ tabulate 32 (λ i. s.now ! (at + i)) }
 {
-    let mut out = [0; 32];
-    let found = part(s, at, 32);
-    out[..found.len()].copy_from_slice(found);
-    out
+    bytes_at(s, at)
 }
 
 // Whether two lists of 32 bytes are the same.
@@ -58,13 +65,9 @@ pub fn equal<'a>(a: &'a [u8], b: &'a [u8]) -> bool
 pub fn part(s: &[u8], at: usize, count: usize) -> &[u8]
     ensures { result.now ≡ take count (drop at s.now) }
 {
-    if s.len() <= at {
-        return &s[s.len()..];
-    }
-    if s.len() - at <= count {
-        return &s[at..];
-    }
-    &s[at..at + count]
+    let start = at.min(s.len());
+    let length = count.min(s.len() - start);
+    &s[start..start + length]
 }
 
 // Puts s in the place of the bytes from `at` on.
@@ -89,20 +92,12 @@ pub fn put_both<'a>(out: &mut [u8], a: &'a [u8], b: &'a [u8])
 pub fn word(k: usize) -> [u8; 4]
     ensures { (result ≡ word_of k) × (length result ≡ 4) }
 {
-    [
-        (k % 256) as u8,
-        (k / 256 % 256) as u8,
-        (k / 65536 % 256) as u8,
-        (k / 16777216 % 256) as u8,
-    ]
+    ((k % 0x1_0000_0000) as u32).to_le_bytes()
 }
 
 // The number that the first four bytes are, 0 for those beyond the end.
 pub fn number(s: &[u8]) -> u32
     ensures { result ≡ number_of s.now }
 {
-    byte_at(s, 0) as u32
-        + 256 * (byte_at(s, 1) as u32)
-        + 65536 * (byte_at(s, 2) as u32)
-        + 16777216 * (byte_at(s, 3) as u32)
+    u32::from_le_bytes(bytes_at(s, 0))
 }

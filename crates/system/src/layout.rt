@@ -58,7 +58,7 @@ pub fn has_sizes(system: &[u8], q: u8, n: u8, m: u8) -> bool
 }
 
 // Refuses a system that is lent to a session of this q, n and m.
-#[tactic(auto, using(refusal::proofs::Answers::refusal_decides), unfolding(crate::specs::System::system_against))]
+#[tactic(auto, using(refusal::proofs::Answers::chain), unfolding(crate::specs::System::system_against))]
 pub fn check_against(system: &[u8], q: u8, n: u8, m: u8) -> Result<(), Refusal>
     ensures { number_of result ≡ system_against system.now q n m }
 {

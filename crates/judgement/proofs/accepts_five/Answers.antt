@@ -12,7 +12,7 @@ unfolding openings_five opening_at with_two with_three
 returns-in-0 c =
     let a = c.args in
     c.opens.ensures ∙
-    one_opens a.d a.commitments.now (openings_five a.system.now a.alpha a.v a.sent a.challenge a.reply) (five_is_one a.system.now a.alpha a.v a.sent a.challenge a.reply)
+    one_opens a.d a.commitments.now (openings_five a.system.now.bytes.now a.alpha a.v a.sent a.challenge a.reply) (five_is_one a.system.now.bytes.now a.alpha a.v a.sent a.challenge a.reply)
     _ 0 c.opening_five-t.ensures (simp c.in-0.is)
 
 pub returns-in_default : goal.returns-in_default
@@ -20,5 +20,5 @@ unfolding openings_five opening_at with_two with_three
 returns-in_default c =
     let a = c.args in
     c.opens-in_default.ensures ∙
-    one_opens a.d a.commitments.now (openings_five a.system.now a.alpha a.v a.sent a.challenge a.reply) (five_is_one a.system.now a.alpha a.v a.sent a.challenge a.reply)
-    _ 1 c.opening_five-t.ensures (simp (five_last a.system.now a.alpha a.v a.sent a.challenge a.reply (omega arith)))
+    one_opens a.d a.commitments.now (openings_five a.system.now.bytes.now a.alpha a.v a.sent a.challenge a.reply) (five_is_one a.system.now.bytes.now a.alpha a.v a.sent a.challenge a.reply)
+    _ 1 c.opening_five-t.ensures (simp (five_last a.system.now.bytes.now a.alpha a.v a.sent a.challenge a.reply (omega arith)))

@@ -1,23 +1,14 @@
 -- The products with the monomials of x and y are G. Assumes nothing.
 use mathlib.Core.Path.{refl, ◌∙◌}
-use native.Mathlib.Omega.{arith}
 use Rattle.polynomials.proofs.Evaluation.{polarised}
 use Rattle.system.proofs.SystemLayout.{accepted}
 use Rattle.polynomials.proofs.g.Goals as goal
 
-pub bounds-system-0 : goal.bounds-system-0
-bounds-system-0 c =
-    let k = accepted _ c.requires in omega arith
-
-pub bounds-system-1 : goal.bounds-system-1
-bounds-system-1 c =
-    let k = accepted _ c.requires in omega arith
-
 pub monomials-requires : goal.monomials-requires
 monomials-requires c =
-    ((accepted _ c.requires).n_high, refl)
+    (rw c.n.ensures (accepted _ c.args.system.now.well_formed).n_high, refl)
 
 pub returns : goal.returns
 returns c =
     c.products.ensures ∙
-    polarised c.args.system.now (accepted _ c.requires).n_high c.args.x c.args.y _ c.monomials.ensures
+    polarised c.args.system.now.bytes.now (accepted _ c.args.system.now.well_formed).n_high c.args.x c.args.y _ (rw (c.q.ensures, c.n.ensures) at c.monomials.ensures)

@@ -1,4 +1,4 @@
--- The loop's invariant: the first l polynomials are done, and the next one's coefficients start at `at`. Assumes nothing.
+-- A polynomial's coefficients stand within the system, and a turn multiplies one with the row. Assumes nothing.
 use Prim.Native.Nat.{ℕ, ◌+◌, ◌-◌, ◌*◌, ◌≤◌, ◌<◌}
 use mathlib.Core.Path.{◌≡◌, refl, ap, ◌∙◌}
 use mathlib.Core.List.{List}
@@ -12,94 +12,72 @@ use Rattle.field.specs.Vector.{sum}
 use Rattle.field.proofs.Fields.{ring}
 use Rattle.field.proofs.Sums.{sum_cong}
 use Rattle.field.proofs.Vectors.{vector_start, vector_step, vector_end}
-use Rattle.system.specs.System.{q_of, n_of, m_of, width, system_refusal}
+use Rattle.system.specs.System.{q_of, n_of, m_of, ops_of, width, system_refusal}
 use Rattle.polynomials.specs.Monomials.{times_row}
 use Rattle.system.proofs.SystemLayout.{accepted, width_bound}
 use Rattle.polynomials.proofs.products.Goals as goal
 
--- the next polynomial's coefficients are within the system
-row_fits : (l m w : ℕ) → l < m → l * w + w ≤ m * w
-row_fits l m w h = omega (arith, mul-le-mul_right w h)
+-- a turn's polynomial stands within the system
+module _ (b : List ℕ) (good : system_refusal b ≡ 0) (l w : ℕ) (wide : w ≡ width (n_of b)) where
+  fits : l < m_of b → 3 + l * w + w ≤ length b
+  fits below = omega (arith, mul-le-mul_right w below, rw (← wide) at (accepted b good).whole)
 
-row_within : (b : List ℕ) (l m at w : ℕ) → system_refusal b ≡ 0 → w ≡ width (n_of b) → m ≡ m_of b → at ≡ 3 + l * width (n_of b) → l < m → at + w ≤ length b
-row_within b l m at w good wide many start below =
-    omega (arith, row_fits l (m_of b) (width (n_of b)) (omega arith), (accepted b good).whole)
+  small : w ≤ 4752
+  unfolding width
+  small = omega (arith, width_bound (n_of b) 96 (accepted b good).n_high)
 
-width_small : (b : List ℕ) (w : ℕ) → system_refusal b ≡ 0 → w ≡ width (n_of b) → w ≤ 4752
-unfolding width
-width_small b w good wide = omega (arith, width_bound (n_of b) 96 (accepted b good).n_high)
+  count : (end : ℕ) → end ≡ 3 + l * w + w → l < m_of b → length (take (end - (3 + l * w)) (drop (3 + l * w) b)) ≡ w
+  count end is below = length_part b (3 + l * w) end (omega arith) (rw is (fits below)) ∙ omega arith
 
-part_count : (b : List ℕ) (l m at w : ℕ) → system_refusal b ≡ 0 → w ≡ width (n_of b) → m ≡ m_of b → at ≡ 3 + l * width (n_of b) → l < m →
-    length (take (at + w - at) (drop at b)) ≡ w
-part_count b l m at w good wide many start below =
-    length_part b at (at + w) (omega arith) (row_within b l m at w good wide many start below) ∙ omega arith
-
--- a product with a part of the system, said of the system
-row_product : (q : ℕ) (b row : List ℕ) (at end w start r : ℕ) →
-    r ≡ sum (ops q) (length (take (end - at) (drop at b))) (λ k. (ops q).mul (take (end - at) (drop at b) ! k) (row ! k)) →
-    length (take (end - at) (drop at b)) ≡ w → end - at ≡ w → at ≡ start →
-    r ≡ sum (ops q) w (λ k. (ops q).mul (b ! (start + k)) (row ! k))
-row_product q b row at end w start r e len part first =
-    (rw len at e) ∙
-    sum_cong (ops q) (ring q) w _ _ (λ k h. ap (λ (c : ℕ). (ops q).mul c (row ! k)) (part_at b at end k (omega arith) ∙ ap (λ (n : ℕ). b ! (n + k)) first))
-
-pub bounds-system-1 : goal.bounds-system-1
-bounds-system-1 c =
-    let k = accepted _ c.requires.0 in omega arith
-
-pub bounds-system-2 : goal.bounds-system-2
-bounds-system-2 c =
-    let k = accepted _ c.requires.0 in omega arith
+  -- the product with its coefficients, said of the system
+  product : (q end r : ℕ) (row : List ℕ) → end ≡ 3 + l * w + w → l < m_of b → q ≡ q_of b →
+      r ≡ sum (ops q) (length (take (end - (3 + l * w)) (drop (3 + l * w) b))) (λ k. (ops q).mul (take (end - (3 + l * w)) (drop (3 + l * w) b) ! k) (row ! k)) →
+      r ≡ sum (ops_of b) (width (n_of b)) (λ k. (ops_of b).mul (b ! (3 + l * width (n_of b) + k)) (row ! k))
+  product q end r row is below field e =
+      rw (← wide, ← field)
+      ((rw (count end is below) at e) ∙
+      sum_cong (ops q) (ring q) w _ _ (λ k h. ap (λ (c : ℕ). (ops q).mul c (row ! k)) (part_at b (3 + l * w) end k (omega arith))))
 
 pub loop-l-init : goal.loop-l-init
-loop-l-init c =
-    (c.width-w.ensures, refl, omega arith, omega arith, vector_start _)
+loop-l-init c = vector_start _
 
-pub overflow_add-next : goal.overflow_add-next
-overflow_add-next c =
-    let v = c.loop-l.invariant in
-    omega (arith, row_within c.args.system.now c.loop-l.l _ c.loop-l.at _ c.requires.0 v.0 v.1 v.2 (omega arith), width_small c.args.system.now _ c.requires.0 v.0)
+pub overflow_mul-at : goal.overflow_mul-at
+overflow_mul-at c =
+    omega (arith, fits c.args.system.now.bytes.now c.args.system.now.well_formed c.loop-l.l _ (c.width-w.ensures ∙ ap width c.n.ensures) (omega arith), (accepted _ c.args.system.now.well_formed).whole)
 
-pub bounds-system-0 : goal.bounds-system-0
-bounds-system-0 c =
-    let k = accepted _ c.requires.0 in omega arith
+pub overflow_add-at : goal.overflow_add-at
+overflow_add-at c =
+    omega (arith, fits c.args.system.now.bytes.now c.args.system.now.well_formed c.loop-l.l _ (c.width-w.ensures ∙ ap width c.n.ensures) (omega arith), (accepted _ c.args.system.now.well_formed).whole)
+
+pub overflow_add-at-in-loop-l : goal.overflow_add-at-in-loop-l
+overflow_add-at-in-loop-l c =
+    omega (arith, fits c.args.system.now.bytes.now c.args.system.now.well_formed c.loop-l.l _ (c.width-w.ensures ∙ ap width c.n.ensures) (omega arith), (accepted _ c.args.system.now.well_formed).whole)
 
 pub slice_bounds-dot-end : goal.slice_bounds-dot-end
 slice_bounds-dot-end c =
-    let v = c.loop-l.invariant in
-    omega (arith, row_within c.args.system.now c.loop-l.l _ c.loop-l.at _ c.requires.0 v.0 v.1 v.2 (omega arith))
+    fits c.args.system.now.bytes.now c.args.system.now.well_formed c.loop-l.l _ (c.width-w.ensures ∙ ap width c.n.ensures) (omega arith)
 
 pub dot-requires : goal.dot-requires
 dot-requires c =
-    let v = c.loop-l.invariant in
-    rw (part_count c.args.system.now c.loop-l.l _ c.loop-l.at _ c.requires.0 v.0 v.1 v.2 (omega arith))
-    (omega (arith, width_small c.args.system.now _ c.requires.0 v.0, c.requires.1), omega (arith, width_small c.args.system.now _ c.requires.0 v.0))
+    let b = c.args.system.now.bytes.now in
+    let good = c.args.system.now.well_formed in
+    let wide = c.width-w.ensures ∙ ap width c.n.ensures in
+    rw (count b good c.loop-l.l _ wide _ refl (omega arith))
+    (omega (arith, small b good c.loop-l.l _ wide), omega (arith, small b good c.loop-l.l _ wide))
 
 pub bounds-out-l : goal.bounds-out-l
 bounds-out-l c =
-    let k = accepted _ c.requires.0 in omega arith
-
-pub overflow_add-l : goal.overflow_add-l
-overflow_add-l c =
-    let k = accepted _ c.requires.0 in omega arith
+    let k = accepted _ c.args.system.now.well_formed in omega arith
 
 pub loop-l-preserved : goal.loop-l-preserved
 loop-l-preserved c =
     let l = c.loop-l in
-    let v = l.invariant in
-    let b = c.args.system.now in
-    let k = accepted b c.requires.0 in
-    let w = c.width-w.result in (
-      v.0,
-      refl,
-      omega arith,
-      omega arith,
-      vector_step _ _ l.l _ v.4 (omega arith)
-          (rw (← v.0)
-          (row_product (q_of b) b c.args.row.now l.at (l.at + w) w (3 + l.l * w) _ c.dot.ensures (part_count b l.l _ l.at w c.requires.0 v.0 v.1 v.2 (omega arith)) (omega arith) (rw v.0 v.2))),
-    )
+    let b = c.args.system.now.bytes.now in
+    let k = accepted b c.args.system.now.well_formed in
+    vector_step _ _ l.l _ l.invariant (omega arith)
+    (product b c.args.system.now.well_formed l.l _ (c.width-w.ensures ∙ ap width c.n.ensures) c.q.result _ _ c.args.row.now refl (omega arith) c.q.ensures c.dot.ensures)
 
 pub returns : goal.returns
 unfolding times_row
 returns c =
-    let k = accepted _ c.requires.0 in vector_end _ _ c.loop-l.l _ c.loop-l.invariant.4 (omega arith)
+    let k = accepted _ c.args.system.now.well_formed in vector_end _ _ c.loop-l.l _ c.loop-l.invariant (omega arith)

@@ -6,4 +6,4 @@ use Rattle.card.proofs.opening.opened_card.Goals as goal
 pub returns : goal.returns
 unfolding opened_card zeros
 returns c =
-    simp (c.no_rhos.ensures, c.from_slice.ensures, c.byte_at-3.ensures, c.byte_at-2.ensures, c.byte_at.ensures, c.scheme_of-passes.ensures)
+    simp (c.no_rhos.ensures, c.from_slice-s.ensures, c.m.ensures, c.n.ensures, c.q.ensures, c.scheme_of.ensures)

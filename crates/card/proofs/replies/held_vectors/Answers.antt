@@ -6,4 +6,4 @@ use Rattle.card.proofs.replies.held_vectors.Goals as goal
 pub returns : goal.returns
 unfolding held_vectors zeros
 returns c =
-    simp (c.t1_of.ensures, c.r1_of.ensures)
+    simp (c.t1_of-t1.ensures, c.r1_of-r1.ensures)

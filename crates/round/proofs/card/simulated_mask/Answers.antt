@@ -13,4 +13,4 @@ returns-in-2 c =
 pub returns-in_default : goal.returns-in_default
 unfolding simulated_mask masked map_of
 returns-in_default c =
-    simp (ne_eqb c.args.unanswered 2 (λ e. omega arith), c.add_vectors.ensures, c.g.ensures, c.byte_at-m.ensures, c.byte_at-q.ensures)
+    simp (ne_eqb c.args.unanswered 2 (λ e. omega arith), c.add_vectors.ensures, c.g.ensures, c.m-m.ensures, c.q-q.ensures)

@@ -6,4 +6,4 @@ use Rattle.round.proofs.card.unmask.Goals as goal
 pub returns : goal.returns
 unfolding unmasked map_of
 returns c =
-    simp (c.sub_vectors-2.ensures, c.sub_vectors.ensures, c.g.ensures, c.sub_vectors-left.ensures, c.f.ensures, c.byte_at-m.ensures, c.byte_at-q.ensures)
+    simp (c.sub_vectors-2.ensures, c.sub_vectors.ensures, c.g.ensures, c.sub_vectors-left.ensures, c.f.ensures, c.m-m.ensures, c.q-q.ensures)

@@ -6,4 +6,4 @@ use Rattle.round.proofs.five.unmasked_by.Goals as goal
 pub returns : goal.returns
 unfolding unmasked_by map_of
 returns c =
-    simp (c.sub_vectors-3.ensures, c.sub_vectors-2.ensures, c.g.ensures, c.mul_vector-scaled.ensures, c.sub_vectors.ensures, c.f.ensures, c.byte_at-m.ensures, c.byte_at-q.ensures)
+    simp (c.sub_vectors-3.ensures, c.sub_vectors-2.ensures, c.g.ensures, c.mul_vector-scaled.ensures, c.sub_vectors.ensures, c.f.ensures, c.m-m.ensures, c.q-q.ensures)

@@ -1,0 +1,2 @@
+-- Laws of refusals by the state.
+pub mod States
