@@ -148,7 +148,7 @@ module _ (f : ℕ → ℕ → ℕ → Type 0) (x y : List ℕ) where
         whole = length-set z i v ∙ c.whole;
         given = λ j h kj.
             ⊎_elim (λ (same : j ≡ i). subst (λ (m : ℕ). f (x ! m) (y ! m) (set z i v ! m)) (sym same)
-                (subst (λ (r : ℕ). f (x ! i) (y ! i) r) (sym (get_or-set_same z i v 0 (rw c.whole k))) now))
+            (subst (λ (r : ℕ). f (x ! i) (y ! i) r) (sym (get_or-set_same z i v 0 (rw c.whole k))) now))
             (λ (less : j < i). subst (λ (r : ℕ). f (x ! j) (y ! j) r) (sym (get_or-set_other z i j v 0 (omega arith))) (c.given j less kj))
             (eq-or-lt_of_le (le_of_suc-le-suc (rw add-one at h)));
         beyond = λ j h. get_or-set_other z i j v 0 (omega arith) ∙ c.beyond j (omega arith);
