@@ -7,16 +7,16 @@ use Rattle.rows.proofs.combination.blend_rows.Goals as goal
 
 pub loop-place-init : goal.loop-place-init
 loop-place-init c =
-    (fill_start _ _, omega arith, refl)
+    (fill_start _ _, refl)
 
 pub loop-place-preserved : goal.loop-place-preserved
 loop-place-preserved c =
     let at = c.loop-place in
-    (fill_step _ _ _ at.place _ at.invariant.0 (omega arith) c.blend.ensures, omega arith, simp length-set at.invariant.2)
+    (fill_step _ _ _ at.place _ at.invariant.0 (omega arith) c.blend.ensures, simp length-set at.invariant.1)
 
 pub shape_of-out : goal.shape_of-out
 shape_of-out c =
-    c.loop-place.invariant.2
+    c.loop-place.invariant.1
 
 pub returns : goal.returns
 returns c =

@@ -10,14 +10,14 @@ use Rattle.rows.proofs.products.parity.Goals as goal
 
 pub loop-i-init : goal.loop-i-init
 loop-i-init c =
-    (omega arith, ap (λ (k : ℕ). k % 2) (products_start _ _))
+    ap (λ (k : ℕ). k % 2) (products_start _ _)
 
 pub loop-i-preserved : goal.loop-i-preserved
 loop-i-preserved c =
-    (omega arith, parity_step _ _ _ _ _ _ c.loop-i.invariant.1 refl refl)
+    parity_step _ _ _ _ _ _ c.loop-i.invariant refl refl
 
 pub returns : goal.returns
 returns c =
     let a = c.args in
     let all : c.loop-i.i ≡ length a.a.now = omega arith in
-    c.loop-i.invariant.1 ∙ ap (λ (k : ℕ). products a.a.now a.b.now k % 2) all
+    c.loop-i.invariant ∙ ap (λ (k : ℕ). products a.a.now a.b.now k % 2) all
