@@ -30,8 +30,7 @@ fn monomials(
 {
     let end = n as usize;
     let mut at = 0;
-    let mut i = 0;
-    while i < end {
+    for i in 0..end {
         let next = at + (end - i);
         combine(
             q,
@@ -43,7 +42,6 @@ fn monomials(
             sparse,
         );
         at = next;
-        i += 1;
     }
     row[at..at + end].copy_from_slice(&t[..end]);
 }
@@ -57,12 +55,10 @@ fn products<'a>(system: &'a [u8], row: &'a [u8]) -> [u8; 96]
     let w = width(system[1]);
     let m = system[2] as usize;
     let mut at = 3;
-    let mut l = 0;
-    while l < m {
+    for l in 0..m {
         let next = at + w;
         out[l] = dot(system[0], &system[at..next], row);
         at = next;
-        l += 1;
     }
     out
 }

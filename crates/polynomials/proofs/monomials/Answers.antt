@@ -30,15 +30,15 @@ last_room n i at few start whole = omega (arith, last_start n i at start whole, 
 pub loop-i-init : goal.loop-i-init
 unfolding triangle
 loop-i-init c =
-    (refl, omega arith, refl, c.requires.1, λ j d h l. absurd (not-suc-le-zero h))
+    (refl, refl, c.requires.1, λ j d h l. absurd (not-suc-le-zero h))
 
 pub overflow_add-next : goal.overflow_add-next
 overflow_add-next c =
-    omega (arith, row_room c.args.n c.loop-i.i c.loop-i.at c.requires.0 (omega arith) c.loop-i.invariant.2)
+    omega (arith, row_room c.args.n c.loop-i.i c.loop-i.at c.requires.0 (omega arith) c.loop-i.invariant.1)
 
 pub slice_bounds-combine-end-in-loop-i-2 : goal.slice_bounds-combine-end-in-loop-i-2
 slice_bounds-combine-end-in-loop-i-2 c =
-    omega (arith, row_room c.args.n c.loop-i.i c.loop-i.at c.requires.0 (omega arith) c.loop-i.invariant.2)
+    omega (arith, row_room c.args.n c.loop-i.i c.loop-i.at c.requires.0 (omega arith) c.loop-i.invariant.1)
 
 pub loop-i-preserved : goal.loop-i-preserved
 unfolding triangle
@@ -47,23 +47,22 @@ loop-i-preserved c =
     let args = c.args in
     let next = l.at + (args.n - l.i) in
     let part = c.combine.new.out in
-    let room : next ≤ length l.row = omega (arith, row_room args.n l.i l.at c.requires.0 (omega arith) l.invariant.2) in (
+    let room : next ≤ length l.row = omega (arith, row_room args.n l.i l.at c.requires.0 (omega arith) l.invariant.1) in (
       refl,
-      omega arith,
-      rw add-one (ap (λ (k : ℕ). k + (args.n - l.i)) l.invariant.2),
-      same_len_mid l.at (next - l.at) l.row part c.combine.auto.out ∙ l.invariant.3,
-      rows_step (ops args.q) args.n l.i l.at (next - l.at) args.x args.y args.z l.row part l.invariant.2 (omega arith) l.invariant.4 _
+      rw add-one (ap (λ (k : ℕ). k + (args.n - l.i)) l.invariant.1),
+      same_len_mid l.at (next - l.at) l.row part c.combine.auto.out ∙ l.invariant.2,
+      rows_step (ops args.q) args.n l.i l.at (next - l.at) args.x args.y args.z l.row part l.invariant.1 (omega arith) l.invariant.3 _
           (length_part l.row l.at next (omega arith) room ∙ omega arith)
           c.combine.ensures,
     )
 
 pub overflow_add-at : goal.overflow_add-at
 overflow_add-at c =
-    omega (arith, last_room c.args.n c.loop-i.i c.loop-i.at c.requires.0 c.loop-i.invariant.2 (omega arith))
+    omega (arith, last_room c.args.n c.loop-i.i c.loop-i.at c.requires.0 c.loop-i.invariant.1 (omega arith))
 
 pub slice_bounds-copy_from_slice-end : goal.slice_bounds-copy_from_slice-end
 slice_bounds-copy_from_slice-end c =
-    omega (arith, last_room c.args.n c.loop-i.i c.loop-i.at c.requires.0 c.loop-i.invariant.2 (omega arith))
+    omega (arith, last_room c.args.n c.loop-i.i c.loop-i.at c.requires.0 c.loop-i.invariant.1 (omega arith))
 
 pub returns : goal.returns
 returns c =
@@ -71,10 +70,10 @@ returns c =
     let args = c.args in
     let part = c.copy_from_slice.new.self in
     let whole : l.i ≡ args.n = omega arith in
-    let room : l.at ≤ length l.row = omega (arith, last_room args.n l.i l.at c.requires.0 l.invariant.2 whole) in
+    let room : l.at ≤ length l.row = omega (arith, last_room args.n l.i l.at c.requires.0 l.invariant.1 whole) in
     let front : length (take args.n args.t) ≡ args.n = length-take-le args.n args.t (omega arith) in
-    rows_end (ops args.q) args.n l.at (l.at + args.n - l.at) args.x args.y args.z args.t l.row part (last_start args.n l.i l.at l.invariant.2 whole)
+    rows_end (ops args.q) args.n l.at (l.at + args.n - l.at) args.x args.y args.z args.t l.row part (last_start args.n l.i l.at l.invariant.1 whole)
     room
-    (rw whole at l.invariant.4)
+    (rw whole at l.invariant.3)
     (omega (arith, front, ap length c.copy_from_slice.ensures.after))
     (λ i h. ap (λ (s : List ℕ). s ! i) c.copy_from_slice.ensures.after ∙ get_or-take args.n args.t i 0 h)

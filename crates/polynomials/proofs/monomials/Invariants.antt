@@ -1,5 +1,4 @@
 -- The loop's invariant: the rows of the triangle before i are filled, and row i starts at `at`. Assumes nothing.
-use Prim.Native.Nat.{◌-◌, ◌≤◌}
 use mathlib.Core.Path.{◌≡◌}
 use lib.ListN.{length}
 use Rattle.field.specs.Ops.{ops}
@@ -9,8 +8,5 @@ use Rattle.polynomials.proofs.monomials.Given as goal
 
 abbrev pub invariant-loop-i : goal.invariant-loop-i
 invariant-loop-i l =
-    (l.end ≡ l.n) × (l.i ≤ l.n) × (l.at ≡ triangle l.n l.i) × (length l.row ≡ 4752) ×
+    (l.end ≡ l.n) × (l.at ≡ triangle l.n l.i) × (length l.row ≡ 4752) ×
     Rows (ops l.q) l.n l.i l.x l.y l.z l.row
-
-abbrev pub decreases-loop-i : goal.decreases-loop-i
-decreases-loop-i l = l.n - l.i

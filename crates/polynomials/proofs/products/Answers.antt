@@ -53,7 +53,7 @@ bounds-system-2 c =
 
 pub loop-l-init : goal.loop-l-init
 loop-l-init c =
-    (c.width-w.ensures, refl, omega arith, omega arith, vector_start _)
+    (c.width-w.ensures, refl, omega arith, vector_start _)
 
 pub overflow_add-next : goal.overflow_add-next
 overflow_add-next c =
@@ -79,10 +79,6 @@ pub bounds-out-l : goal.bounds-out-l
 bounds-out-l c =
     let k = accepted _ c.requires.0 in omega arith
 
-pub overflow_add-l : goal.overflow_add-l
-overflow_add-l c =
-    let k = accepted _ c.requires.0 in omega arith
-
 pub loop-l-preserved : goal.loop-l-preserved
 loop-l-preserved c =
     let l = c.loop-l in
@@ -93,8 +89,7 @@ loop-l-preserved c =
       v.0,
       refl,
       omega arith,
-      omega arith,
-      vector_step _ _ l.l _ v.4 (omega arith)
+      vector_step _ _ l.l _ v.3 (omega arith)
           (rw (← v.0)
           (row_product (q_of b) b c.args.row.now l.at (l.at + w) w (3 + l.l * w) _ c.dot.ensures (part_count b l.l _ l.at w c.requires.0 v.0 v.1 v.2 (omega arith)) (omega arith) (rw v.0 v.2))),
     )
@@ -102,4 +97,4 @@ loop-l-preserved c =
 pub returns : goal.returns
 unfolding times_row
 returns c =
-    let k = accepted _ c.requires.0 in vector_end _ _ c.loop-l.l _ c.loop-l.invariant.4 (omega arith)
+    let k = accepted _ c.requires.0 in vector_end _ _ c.loop-l.l _ c.loop-l.invariant.3 (omega arith)
