@@ -47,6 +47,7 @@ fn monomials(
 }
 
 // Each polynomial's coefficients times the monomials.
+#[tactic(auto, using(system::proofs::SystemLayout::accepted))]
 fn products<'a>(system: &'a [u8], row: &'a [u8]) -> [u8; 96]
     requires { (system_refusal system.now ≡ 0) × (length row.now ≡ 4752) }
     ensures { result ≡ times_row system.now row.now }
@@ -64,6 +65,7 @@ fn products<'a>(system: &'a [u8], row: &'a [u8]) -> [u8; 96]
 }
 
 // F(x).
+#[tactic(auto, using(system::proofs::SystemLayout::accepted))]
 pub fn f(system: &[u8], x: [u8; 96]) -> [u8; 96]
     requires { system_refusal system.now ≡ 0 }
     ensures { result ≡ F system.now x }
@@ -74,6 +76,7 @@ pub fn f(system: &[u8], x: [u8; 96]) -> [u8; 96]
 }
 
 // G(x, y).
+#[tactic(auto, using(system::proofs::SystemLayout::accepted))]
 pub fn g(system: &[u8], x: [u8; 96], y: [u8; 96]) -> [u8; 96]
     requires { system_refusal system.now ≡ 0 }
     ensures { result ≡ G system.now x y }

@@ -43,41 +43,15 @@ row_product q b row at end w start r e len part first =
     (rw len at e) ∙
     sum_cong (ops q) (ring q) w _ _ (λ k h. ap (λ (c : ℕ). (ops q).mul c (row ! k)) (part_at b at end k (omega arith) ∙ ap (λ (n : ℕ). b ! (n + k)) first))
 
-pub bounds-system-1 : goal.bounds-system-1
-bounds-system-1 c =
-    let k = accepted _ c.requires.0 in omega arith
-
-pub bounds-system-2 : goal.bounds-system-2
-bounds-system-2 c =
-    let k = accepted _ c.requires.0 in omega arith
-
 pub loop-l-init : goal.loop-l-init
 loop-l-init c =
     (c.width-w.ensures, refl, omega arith, vector_start _)
-
-pub overflow_add-next : goal.overflow_add-next
-overflow_add-next c =
-    let v = c.loop-l.invariant in
-    omega (arith, row_within c.args.system.now c.loop-l.l _ c.loop-l.at _ c.requires.0 v.0 v.1 v.2 (omega arith), width_small c.args.system.now _ c.requires.0 v.0)
-
-pub bounds-system-0 : goal.bounds-system-0
-bounds-system-0 c =
-    let k = accepted _ c.requires.0 in omega arith
-
-pub slice_bounds-dot-end : goal.slice_bounds-dot-end
-slice_bounds-dot-end c =
-    let v = c.loop-l.invariant in
-    omega (arith, row_within c.args.system.now c.loop-l.l _ c.loop-l.at _ c.requires.0 v.0 v.1 v.2 (omega arith))
 
 pub dot-requires : goal.dot-requires
 dot-requires c =
     let v = c.loop-l.invariant in
     rw (part_count c.args.system.now c.loop-l.l _ c.loop-l.at _ c.requires.0 v.0 v.1 v.2 (omega arith))
     (omega (arith, width_small c.args.system.now _ c.requires.0 v.0, c.requires.1), omega (arith, width_small c.args.system.now _ c.requires.0 v.0))
-
-pub bounds-out-l : goal.bounds-out-l
-bounds-out-l c =
-    let k = accepted _ c.requires.0 in omega arith
 
 pub loop-l-preserved : goal.loop-l-preserved
 loop-l-preserved c =

@@ -2,7 +2,7 @@
 use mathlib.Core.Path.{refl}
 use native.Mathlib.Omega.{arith}
 use lib.ListN.{length-set}
-use Rattle.slices.proofs.Tabulate.{fill_start, fill_step, fill_end}
+use Rattle.slices.proofs.Tabulate.{fill_start, fill_step}
 use Rattle.rows.proofs.combination.scale.Goals as goal
 
 pub loop-i-init : goal.loop-i-init
@@ -13,11 +13,3 @@ pub loop-i-preserved : goal.loop-i-preserved
 loop-i-preserved c =
     let at = c.loop-i in
     (simp length-set at.invariant.0, fill_step _ _ _ at.i _ at.invariant.1 (omega arith) c.mul.ensures)
-
-pub shape_of-out : goal.shape_of-out
-shape_of-out c =
-    c.loop-i.invariant.0
-
-pub returns : goal.returns
-returns c =
-    fill_end _ _ _ c.loop-i.i c.loop-i.invariant.1 (omega arith)

@@ -1,10 +1,9 @@
--- The loop's invariant: the sums are together that of the products before `at`. Assumes nothing.
+-- The loop's invariant: the sums are together that of the products of the blocks before this one. Assumes nothing.
 use Prim.Native.Nat.{ℕ, ◌+◌, ◌*◌, ◌/◌}
 use mathlib.Core.Path.{◌≡◌, refl, ap, ◌∙◌}
 use native.Mathlib.Nat.{le_refl}
 use native.Mathlib.Omega.{arith}
 use lib.ListN.{length}
-use Rattle.std.proofs.Common.{rules}
 use Rattle.field.specs.Row.{products}
 use Rattle.field.proofs.Rows.{products_start, products_block}
 use Rattle.rows.proofs.sums.sum_of_products.Goals as goal
@@ -12,11 +11,6 @@ use Rattle.rows.proofs.sums.sum_of_products.Goals as goal
 pub loop-block-init : goal.loop-block-init
 loop-block-init c =
     (omega arith, products_start _ _)
-
--- the sums stay below 2^32 for the longest row
-pub add_products-requires : goal.add_products-requires
-add_products-requires c =
-    (search rules, search rules, search rules, omega (arith, c.loop-block.invariant.0, c.loop-block-test.true, c.requires.1))
 
 pub loop-block-preserved : goal.loop-block-preserved
 loop-block-preserved c =
