@@ -1,8 +1,8 @@
--- One product a place where b is 0, else both. Assumes nothing.
+-- Where b is 0, one product a place is the combination. Assumes nothing.
 use mathlib.Core.Path.{◌∙◌}
 use lib.ListN.{length}
 use Rattle.field.proofs.Rows.{scaled}
-use Rattle.rows.proofs.combination.sparse_rows.Goals as goal
+use Rattle.rows.proofs.combination.combine.Goals as goal
 
 pub returns-then-b-eq0 : goal.returns-then-b-eq0
 returns-then-b-eq0 c =
