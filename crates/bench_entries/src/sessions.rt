@@ -6,7 +6,10 @@ ghost use Rattle.card_state.specs.Card.{sent_commitments, sent_middle, sent_repl
 ghost use Rattle.carrier_state.specs.Carrier.{accepts_reply, reply_refusal as carrier_reply_refusal};
 ghost use Rattle.bench_entries.specs.Bench.{open_card, card_committed, card_answered, carrier_asked};
 
+use refusal::number_of;
+
 // The card: open with one round, commit, reply to α, reply. Answers the refusal of the reply.
+#[tactic(auto, unfolding(crate::specs::Bench::open_card, crate::specs::Bench::card_committed, crate::specs::Bench::card_answered))]
 #[unsafe(no_mangle)]
 pub extern "C" fn bench_card<'a>(
     system: &'a [u8],
@@ -43,10 +46,10 @@ pub extern "C" fn bench_card<'a>(
         (length commitments.old) alpha (length middle.old))
         challenge)) }
 {
-    let opened = card::open(system, scheme, 1, v, s).card;
-    let committed = card::commit(opened, system, lent, commitments).card;
-    let answered = card::answer_alpha(committed, system, alpha, middle).card;
-    card::reply(answered, challenge, reply).refusal
+    let opened = card::open(system, scheme, 1, v, s).session;
+    let committed = card::commit(opened, system, lent, commitments).session;
+    let answered = card::answer_alpha(committed, system, alpha, middle).session;
+    number_of(card::reply(answered, challenge, reply).answer)
 }
 
 // The carrier: open with one round, take the commitments, set α, take t1 and e1, set the challenge, take the reply. Answers
@@ -71,10 +74,10 @@ pub extern "C" fn bench_carrier<'a>(
         (carrier_asked system.now scheme v.now commitments.now alpha middle.now challenge)
         system.now reply.now) }
 {
-    let opened = carrier::open(system, scheme, 1, v).carrier;
-    let committed = carrier::take_commitments(opened, commitments).carrier;
-    let weighed = carrier::set_alpha(committed, alpha).carrier;
-    let taken = carrier::take_middle(weighed, middle).carrier;
-    let asked = carrier::set_challenge(taken, challenge).carrier;
-    carrier::take_reply(asked, system, reply).accepted
+    let opened = carrier::open(system, scheme, 1, v).session;
+    let committed = carrier::take_commitments(opened, commitments).session;
+    let weighed = carrier::set_alpha(committed, alpha).session;
+    let taken = carrier::take_middle(weighed, middle).session;
+    let asked = carrier::set_challenge(taken, challenge).session;
+    carrier::take_reply(asked, system, reply).answer.unwrap_or(false)
 }

@@ -4,6 +4,8 @@ ghost use Rattle.refusal.specs.Refusal.{kept};
 ghost use Rattle.record_form.specs.Record.{header_of, written};
 ghost use Rattle.record_writer.specs.Writer.{fields_of, write_refusal};
 
+use refusal::number_of;
+
 // Writes a record.
 #[unsafe(no_mangle)]
 pub extern "C" fn bench_write<'a>(
@@ -22,5 +24,7 @@ pub extern "C" fn bench_write<'a>(
         × (out.new ≡ kept result out.old (written
         (fields_of (header_of scheme q n m rounds) key.now commitments.now exchanges.now))) }
 {
-    record_writer::write(scheme, q, n, m, rounds, key, commitments, exchanges, out)
+    number_of(record_writer::write(
+        scheme, q, n, m, rounds, key, commitments, exchanges, out,
+    ))
 }

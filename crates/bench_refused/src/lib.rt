@@ -13,6 +13,7 @@ ghost use Rattle.bench_refused.specs.Refused.{card_phase, card_in, carrier_phase
 
 use card_state::{Card, CardPhase, card_with, closed_card, held_lent};
 use carrier_state::{Carrier, CarrierPhase, carrier_with, closed_carrier};
+use refusal::number_of;
 use session_state::Verdict;
 
 // A card's phase by its number.
@@ -84,7 +85,7 @@ pub extern "C" fn bench_commit<'a>(
     ensures { (result ≡ commit_refusal (card_in phase) system.now lent.now (length out.old))
         × (out.new ≡ kept result out.old (sent_commitments (card_in phase) system.now lent.now)) }
 {
-    card::commit(card_in(phase), system, lent, out).refusal
+    number_of(card::commit(card_in(phase), system, lent, out).answer)
 }
 
 // The card's answer to α.
@@ -93,7 +94,7 @@ pub extern "C" fn bench_answer_alpha(phase: u8, system: &[u8], alpha: u8, out: &
     ensures { (result ≡ alpha_refusal (card_in phase) system.now alpha (length out.old))
         × (out.new ≡ kept result out.old (sent_middle (card_in phase) system.now alpha)) }
 {
-    card::answer_alpha(card_in(phase), system, alpha, out).refusal
+    number_of(card::answer_alpha(card_in(phase), system, alpha, out).answer)
 }
 
 // The carrier's taking of a reply.
@@ -101,5 +102,5 @@ pub extern "C" fn bench_answer_alpha(phase: u8, system: &[u8], alpha: u8, out: &
 pub extern "C" fn bench_take_reply<'a>(phase: u8, system: &'a [u8], reply: &'a [u8]) -> u8
     ensures { result ≡ reply_refusal (carrier_in phase) system.now reply.now }
 {
-    carrier::take_reply(carrier_in(phase), system, reply).refusal
+    number_of(carrier::take_reply(carrier_in(phase), system, reply).answer)
 }
