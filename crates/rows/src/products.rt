@@ -15,8 +15,8 @@ fn parity<'a>(a: &'a [u8], b: &'a [u8]) -> u8
     ensures { result ≡ products a.now b.now (length a.now) % 2 }
 {
     let mut bits: u8 = 0;
-    for i in 0..a.len() {
-        bits ^= a[i] & b[i];
+    for (x, y) in a.iter().zip(b) {
+        bits ^= *x & *y;
     }
     bits % 2
 }
