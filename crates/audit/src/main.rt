@@ -6,14 +6,9 @@
 // case.
 #![tactic(auto)]
 
-mod file;
-
-ghost use Rattle.std.specs.Prelude.{◌≡◌, length};
-
-use crate::file::{record_buffer, system_buffer};
 use audit_lines::{Lengths, five_text, three_text};
-use files::{Loaded, count_words, load, print};
-use slices::part;
+use files::{count_words, load, print};
+use slices::{part, zeros};
 use std::rt::{Env, Files};
 
 // How many words there are with a system and three or four records, the program's name among them.
@@ -21,59 +16,55 @@ const WITH_THREE: usize = 5;
 
 const WITH_FOUR: usize = 6;
 
+// Room for the largest well-formed file, and for one byte more, by which a file that is too large shows: a system's 456,195 bytes,
+// and a record's 114,621, those of scheme 3 with n = m = 96 and N = 255.
+const SYSTEM: usize = 456196;
+
+const RECORD: usize = 114622;
+
+// Room for the longest text.
+const TEXT: usize = 2048;
+
 // Said where an argument can't be taken.
 const MISSING: &[u8] = b"audit: argument";
 
 fn main(rt: HostRuntime) {
-    let mut text = text_buffer();
+    let mut text = zeros::<TEXT>();
     let words = count_words(&rt, WITH_FOUR + 1);
     let written = match words {
         WITH_THREE | WITH_FOUR => audited_files(&rt, words, &mut text),
         _ => usage(&rt),
     };
-    print(&rt, part(&text, 0, written));
-}
-
-// Room for the longest text.
-fn text_buffer() -> [u8; 2048]
-    ensures { 2048 ≡ length result }
-{
-    [0; 2048]
+    if let Some(length) = written {
+        print(&rt, part(&text, 0, length));
+    }
 }
 
 // Answers that there is no text.
-fn usage<R: Eprint>(rt: &R) -> usize {
+fn usage<R: Eprint>(rt: &R) -> Option<usize> {
     let _ = eprintln!(rt; "usage: audit SYSTEM A B C (scheme 3)");
     let _ = eprintln!(rt; "       audit SYSTEM A B C D (scheme 5)");
-    0
+    None
 }
 
-// Reads a system and three or four records, as many as there are words for, and audits them.
-fn audited_files<R: Env + Files + Eprint>(rt: &R, words: usize, text: &mut [u8; 2048]) -> usize {
-    let mut system = system_buffer();
-    let mut a = record_buffer();
-    let mut b = record_buffer();
-    let mut c = record_buffer();
-    let Loaded::Read(system_length) = load(rt, 1, MISSING, &mut system) else {
-        return 0;
-    };
-    let Loaded::Read(a_length) = load(rt, 2, MISSING, &mut a) else {
-        return 0;
-    };
-    let Loaded::Read(b_length) = load(rt, 3, MISSING, &mut b) else {
-        return 0;
-    };
-    let Loaded::Read(c_length) = load(rt, 4, MISSING, &mut c) else {
-        return 0;
-    };
+// Reads a system and three or four records, as many as there are words for, audits them, and answers how long the text is.
+fn audited_files<R: Env + Files + Eprint>(
+    rt: &R,
+    words: usize,
+    text: &mut [u8; TEXT],
+) -> Option<usize> {
+    let mut system = zeros::<SYSTEM>();
+    let mut a = zeros::<RECORD>();
+    let mut b = zeros::<RECORD>();
+    let mut c = zeros::<RECORD>();
     let lengths = Lengths {
-        system: system_length,
-        a: a_length,
-        b: b_length,
-        c: c_length,
+        system: load(rt, 1, MISSING, &mut system)?,
+        a: load(rt, 2, MISSING, &mut a)?,
+        b: load(rt, 3, MISSING, &mut b)?,
+        c: load(rt, 4, MISSING, &mut c)?,
     };
     if words == WITH_THREE {
-        three_text(&system, &a, &b, &c, lengths, text)
+        Some(three_text(&system, &a, &b, &c, lengths, text))
     } else {
         with_fourth(rt, &system, &a, &b, &c, lengths, text)
     }
@@ -87,11 +78,9 @@ fn with_fourth<'a, R: Env + Files + Eprint>(
     b: &'a [u8],
     c: &'a [u8],
     lengths: Lengths,
-    text: &mut [u8; 2048],
-) -> usize {
-    let mut d = record_buffer();
-    let Loaded::Read(d_length) = load(rt, 5, MISSING, &mut d) else {
-        return 0;
-    };
-    five_text(system, a, b, c, &d, lengths, d_length, text)
+    text: &mut [u8; TEXT],
+) -> Option<usize> {
+    let mut d = zeros::<RECORD>();
+    let length = load(rt, 5, MISSING, &mut d)?;
+    Some(five_text(system, a, b, c, &d, lengths, length, text))
 }

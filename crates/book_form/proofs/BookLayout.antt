@@ -182,7 +182,7 @@ pub record LaidOut (b : List ℕ) : Type 0 where
   pub offsets : (i : ℕ) → i < (front_in b).count → number (take 4 (drop 10 (piece 14 i (table_in b)))) ≡ offset_of (front_in b) i
 
 module _ (b : List ℕ) (k : LaidOut b) where
-  table_size : length (table_in b) ≡ (front_in b).count * 14
+  pub table_size : length (table_in b) ≡ (front_in b).count * 14
   unfolding table_in
   table_size =
       let whole = k.whole in

@@ -1,61 +1,64 @@
 // The labels of all cards: no wrong half, and rising.
 ghost use Rattle.std.specs.Prelude.{◌≡◌, ◌+◌, ◌*◌, ◌≤◌, length};
+ghost use Rattle.refusal.specs.Refusal.{number_of};
 ghost use Rattle.book_form.specs.Labels.{label_at, is_above, label_refusal, labels_refusal};
 
 use crate::layout::of_cards;
 use label::{is_below, is_label};
-use refusal::{first, unless};
+use refusal::{Refusal, require};
 use slices::part;
 
-// The label of card i, where a label starts every `each` bytes.
-pub fn label_at(bytes: &[u8], each: u8, i: u32) -> &[u8]
-    ensures { result.now ≡ label_at each bytes.now i }
-{
-    part(bytes, of_cards(i, each), 10)
+// The labels in some bytes, where one starts every `each`: 14 in a table, 10 where they stand alone.
+#[derive(Clone, Copy)]
+pub struct Labels<'a> {
+    pub bytes: &'a [u8],
+    pub each: u8,
 }
 
-// The same where it is known to be whole.
-fn label_in(bytes: &[u8], each: u8, i: u32) -> &[u8]
-    requires { i * each + 10 ≤ length bytes.now }
-    ensures { result.now ≡ label_at each bytes.now i }
-{
-    let at = of_cards(i, each);
-    &bytes[at..at + 10]
-}
-
-// Whether the label of card i is above the one before.
-fn is_above(bytes: &[u8], each: u8, i: u32) -> bool
-    requires { i * each + 10 ≤ length bytes.now }
-    ensures { result ≡ is_above each bytes.now i }
-{
-    if i == 0 {
-        return true;
+impl<'a> Labels<'a> {
+    // The label of card i.
+    pub fn at(&self, i: u32) -> &'a [u8]
+        ensures { result.now ≡ label_at self.now.each self.now.bytes.now i }
+    {
+        part(self.bytes, of_cards(i, self.each), 10)
     }
-    is_below(label_in(bytes, each, i - 1), label_in(bytes, each, i))
-}
 
-// The refusal of card i's label.
-fn label_refusal(bytes: &[u8], each: u8, i: u32) -> u8
-    requires { i * each + 10 ≤ length bytes.now }
-    ensures { result ≡ label_refusal each bytes.now i }
-{
-    let halves = unless(is_label(label_in(bytes, each, i)), 12);
-    let order = unless(is_above(bytes, each, i), 13);
-    first(halves, order)
-}
+    // The same where it is known to be whole.
+    fn whole_at(&self, i: u32) -> &'a [u8]
+        requires { i * self.now.each + 10 ≤ length self.now.bytes.now }
+        ensures { result.now ≡ label_at self.now.each self.now.bytes.now i }
+    {
+        let at = of_cards(i, self.each);
+        &self.bytes[at..at + 10]
+    }
 
-// The refusal of the first card at fault; it ends there.
-pub fn labels_refusal(bytes: &[u8], each: u8, count: u32) -> u8
-    requires { (count * each ≤ length bytes.now) × (10 ≤ each) }
-    ensures { result ≡ labels_refusal each count bytes.now }
-{
-    let mut i = 0;
-    while i < count {
-        let found = label_refusal(bytes, each, i);
-        if found != 0 {
-            return found;
+    // Whether the label of card i is above the one before.
+    #[tactic(auto, unfolding(crate::specs::Labels::is_above))]
+    fn is_above(&self, i: u32) -> bool
+        requires { i * self.now.each + 10 ≤ length self.now.bytes.now }
+        ensures { result ≡ is_above self.now.each self.now.bytes.now i }
+    {
+        i == 0 || is_below(self.whole_at(i - 1), self.whole_at(i))
+    }
+
+    // Refuses the label of card i.
+    #[tactic(auto, using(crate::proofs::Loops::chain), unfolding(crate::specs::Labels::label_refusal))]
+    fn check_label(&self, i: u32) -> Result<(), Refusal>
+        requires { i * self.now.each + 10 ≤ length self.now.bytes.now }
+        ensures { number_of result ≡ label_refusal self.now.each self.now.bytes.now i }
+    {
+        require(is_label(self.whole_at(i)), Refusal::LabelHalf)?;
+        require(self.is_above(i), Refusal::LabelOrder)
+    }
+
+    // Refuses the labels of so many cards: the first at fault decides.
+    pub fn check(&self, count: u32) -> Result<(), Refusal>
+        requires { (count * self.now.each ≤ length self.now.bytes.now) × (10 ≤ self.now.each) }
+        ensures { number_of result ≡ labels_refusal self.now.each count self.now.bytes.now }
+    {
+        for i in 0..count {
+            self.check_label(i)?;
         }
-        i += 1;
+        Ok(())
     }
-    0
 }

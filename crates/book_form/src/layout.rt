@@ -2,15 +2,6 @@
 ghost use Rattle.std.specs.Prelude.{◌≡◌, ◌*◌, ◌≤◌};
 ghost use Rattle.book_form.specs.Book.{offset_of, book_length};
 
-// What stands before the table.
-#[derive(Clone, Copy)]
-pub struct Front {
-    pub count: u32,
-    pub q: u8,
-    pub n: u8,
-    pub m: u8,
-}
-
 // The bytes of so many cards, with `each` a card.
 pub fn of_cards(count: u32, each: u8) -> usize
     ensures { (result ≡ count * each) × (result ≤ 1095216660225) }
@@ -25,16 +16,29 @@ pub fn table_length(count: u32) -> usize
     of_cards(count, 14)
 }
 
-// Where the key of card i stands, counted from 0.
-pub fn offset_of(h: Front, i: u32) -> usize
-    ensures { (result ≡ offset_of h i) × (result ≤ 3000000000000) }
-{
-    7 + table_length(h.count) + of_cards(i, h.m)
+// What stands before the table.
+#[derive(Clone, Copy, Debug, PartialEq, Eq)]
+pub struct Front {
+    pub count: u32,
+    pub q: u8,
+    pub n: u8,
+    pub m: u8,
 }
 
-// The bytes of a whole book.
-pub fn book_length(h: Front) -> usize
-    ensures { (result ≡ book_length h) × (result ≤ 3000000000000) }
-{
-    offset_of(h, h.count)
+impl Front {
+    // Where the key of card i stands, counted from 0.
+    #[tactic(auto, unfolding(crate::specs::Book::offset_of))]
+    pub fn offset_of(self, i: u32) -> usize
+        ensures { (result ≡ offset_of self i) × (result ≤ 3000000000000) }
+    {
+        7 + table_length(self.count) + of_cards(i, self.m)
+    }
+
+    // The bytes of a whole book.
+    #[tactic(auto, unfolding(crate::specs::Book::book_length))]
+    pub fn book_length(self) -> usize
+        ensures { (result ≡ book_length self) × (result ≤ 3000000000000) }
+    {
+        self.offset_of(self.count)
+    }
 }

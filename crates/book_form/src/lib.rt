@@ -5,6 +5,5 @@ mod labels;
 mod layout;
 mod values;
 
-pub use labels::{label_at, labels_refusal};
-pub use layout::{Front, book_length, of_cards, offset_of, table_length};
-pub use values::values_refusal;
+pub use labels::Labels;
+pub use layout::{Front, of_cards, table_length};

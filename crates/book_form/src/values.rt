@@ -1,16 +1,19 @@
 // The count of a book, and its q, n and m.
 ghost use Rattle.std.specs.Prelude.{◌≡◌};
+ghost use Rattle.refusal.specs.Refusal.{number_of};
 ghost use Rattle.book_form.specs.Values.{values_refusal};
 
 use crate::layout::Front;
-use refusal::{first, unless};
+use refusal::{Refusal, require};
 use system::are_sizes;
 
-// The refusal of these numbers.
-pub fn values_refusal(h: Front) -> u8
-    ensures { result ≡ values_refusal h }
-{
-    let count = unless(h.count <= 2000, 6);
-    let sizes = unless(are_sizes(h.q, h.n, h.m), 1);
-    first(count, sizes)
+impl Front {
+    // Refuses numbers that are not among their values.
+    #[tactic(auto, using(crate::proofs::Loops::chain), unfolding(crate::specs::Values::values_refusal))]
+    pub fn check_values(self) -> Result<(), Refusal>
+        ensures { number_of result ≡ values_refusal self }
+    {
+        require(self.count <= 2000, Refusal::Form)?;
+        require(are_sizes(self.q, self.n, self.m), Refusal::Value)
+    }
 }

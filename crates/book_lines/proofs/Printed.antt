@@ -13,7 +13,7 @@ use Rattle.book_form.specs.declared.layout.Front.{Front}
 use Rattle.book_form.specs.Book.{label_of, key_of, Fields, front_in, written, Valid, WellFormedBook}
 use Rattle.book_form.proofs.BookLayout.{front_written, fields_written, label_written}
 use Rattle.book_reader.proofs.WellFormed.{written_accepted}
-use Rattle.book_lookup.specs.declared.LookedUp.{LookedUp}
+use Rattle.book_lookup.specs.Answer.{LookedUp}
 use Rattle.book_lookup.specs.Lookup.{lookup_of}
 use Rattle.book_lookup.proofs.Lookups.{lookup_right}
 use Rattle.iccid.specs.Iccid.{label_digits}

@@ -9,8 +9,7 @@ use Rattle.book_form.specs.declared.layout.Front.{Front}
 use Rattle.book_form.specs.Book.{key_of, front_in, table_in, fields_in}
 use Rattle.book_form.specs.Labels.{label_at}
 use Rattle.book_reader.specs.Reader.{book_refusal}
-use Rattle.book_lookup.specs.declared.Answer.{Answer}
-use Rattle.book_lookup.specs.declared.Answer.TheVariants.{Found, Absent, Refused}
+use Rattle.book_lookup.specs.Answer.{Answer, Found, Absent, Refused}
 use Rattle.book_lookup.specs.Lookup.{lookup_of}
 
 -- ---- words

@@ -7,15 +7,16 @@ ghost use Rattle.std.specs.Prelude.{◌≡◌, ◌++◌, ◌+◌, ◌*◌, ◌�
 ghost use Rattle.slices.specs.Slices.{placed, joined};
 ghost use Rattle.book_form.specs.Book.{front_in};
 ghost use Rattle.book_reader.specs.Reader.{book_refusal};
-ghost use Rattle.book_lookup.specs.Lookup.{lookup_of};
+ghost use Rattle.book_lookup.specs.Lookup.{lookup_of, answered};
 ghost use Rattle.iccid.specs.Iccid.{label_from};
-ghost use Rattle.book_lines.specs.BookLines.{card_line, sizes_line, card_of, book_text, key_line, answer_line, lookup_text};
+ghost use Rattle.book_lines.specs.BookLines.{card_line, sizes_line, card_of, book_text, key_line, lookup_text};
 
-use book_form::{Front, label_at};
-use book_lookup::{Answer, LookedUp, lookup};
-use book_reader::{front_of, key_at, read, refusal_of, table_of};
+use book_form::Front;
+use book_lookup::lookup;
+use book_reader::{front_of, key_at, labels_of, read};
 use hex_text::append_hex;
-use iccid::{append_label, bytes_from, label_length};
+use iccid::{append_label, label_of};
+use refusal::Refusal;
 use report_lines::refused_line;
 use slices::part;
 use text::{append, append_count, append_number, append_numbers};
@@ -34,13 +35,13 @@ fn card_line<'a>(text: &mut [u8], at: usize, label: &'a [u8], key: &'a [u8]) -> 
 }
 
 // `q 7 n 2 m 2 count 3`
-fn sizes_line(text: &mut [u8], h: Front) -> usize
+fn sizes_line(text: &mut [u8], front: Front) -> usize
     requires { 29 ≤ length text.old }
-    ensures { (text.new ≡ placed text.old 0 (sizes_line h)) × (result ≡ length (sizes_line h)) × (result ≤ 29) }
+    ensures { (text.new ≡ placed text.old 0 (sizes_line front)) × (result ≡ length (sizes_line front)) × (result ≤ 29) }
 {
-    let next = append_numbers(text, 0, b"q ", h.q, b" n ", h.n);
-    let next = append_number(text, next, b" m ", h.m);
-    let next = append_count(text, next, b" count ", h.count);
+    let next = append_numbers(text, 0, b"q ", front.q, b" n ", front.n);
+    let next = append_number(text, next, b" m ", front.m);
+    let next = append_count(text, next, b" count ", front.count);
     append(text, next, b"\n")
 }
 
@@ -50,8 +51,7 @@ fn append_card(book: &[u8], i: u32, text: &mut [u8], at: usize) -> usize
     ensures { (text.new ≡ placed text.old «at» (card_of book.now i))
         × (result ≡ at + length (card_of book.now i)) × (result ≤ at + 214) }
 {
-    let label = label_at(table_of(book), 14, i);
-    card_line(text, at, label, key_at(book, i))
+    card_line(text, at, labels_of(book).at(i), key_at(book, i))
 }
 
 // The numbers of a book that is not refused, then a line a card.
@@ -61,13 +61,10 @@ fn all_cards(book: &[u8], text: &mut [u8]) -> usize
         (sizes_line (front_in book.now) ++ joined (front_in book.now).count (card_of book.now)))
         × (result ≡ length (sizes_line (front_in book.now) ++ joined (front_in book.now).count (card_of book.now))) }
 {
-    let h = front_of(book);
-    let count = h.count;
-    let mut at = sizes_line(text, h);
-    let mut card = 0;
-    while card < count {
+    let front = front_of(book);
+    let mut at = sizes_line(text, front);
+    for card in 0..front.count {
         at = append_card(book, card, text, at);
-        card += 1;
     }
     at
 }
@@ -76,19 +73,20 @@ fn all_cards(book: &[u8], text: &mut [u8]) -> usize
 pub fn book_text(book: &[u8], text: &mut [u8; 428064]) -> usize
     ensures { (text.new ≡ placed text.old 0 (book_text book.now)) × (result ≡ length (book_text book.now)) }
 {
-    let refused = refusal_of(read(book));
-    if refused != 0 {
-        return refused_line(text, 0, refused);
+    match read(book) {
+        Ok(_) => all_cards(book, text),
+        Err(refusal) => refused_line(text, 0, u8::from(refusal)),
     }
-    all_cards(book, text)
 }
 
 // Looks the label of an ICCID up.
-fn looked_up<'a>(book: &'a [u8], iccid: &'a [u8]) -> LookedUp
-    ensures { result ≡ lookup_of book.now (label_from iccid.now) }
+fn looked_up<'a>(book: &'a [u8], iccid: &'a [u8]) -> Result<Option<[u8; 96]>, Refusal>
+    ensures { answered result ≡ lookup_of book.now (label_from iccid.now) }
 {
-    let label = bytes_from(iccid);
-    lookup(book, part(&label, 0, label_length(iccid)))
+    match label_of(iccid) {
+        Some(label) => lookup(book, &label),
+        None => lookup(book, &[]),
+    }
 }
 
 // A key alone on its line.
@@ -100,27 +98,14 @@ fn key_line(text: &mut [u8], key: &[u8]) -> usize
     append(text, next, b"\n")
 }
 
-// The key, `absent`, or the refusal.
-fn answer_line(text: &mut [u8], answer: Answer, key: &[u8]) -> usize
-    requires { (length key.now ≤ 96) × (length text.old ≡ 428064) }
-    ensures { (text.new ≡ placed text.old 0 (answer_line answer key.now))
-        × (result ≡ length (answer_line answer key.now)) }
-{
-    match answer {
-        Answer::Found => key_line(text, key),
-        Answer::Absent => append(text, 0, b"absent\n"),
-        Answer::Refused(number) => refused_line(text, 0, number),
-    }
-}
-
-// The key of the card with an ICCID, or that there is none.
+// The key of the card with an ICCID, of m bytes, or `absent`, or the refusal.
 pub fn lookup_text<'a>(book: &'a [u8], iccid: &'a [u8], text: &mut [u8; 428064]) -> usize
     ensures { (text.new ≡ placed text.old 0 (lookup_text book.now iccid.now))
         × (result ≡ length (lookup_text book.now iccid.now)) }
 {
-    let found = looked_up(book, iccid);
-    let answer = found.answer;
-    let key = found.key;
-    let h = front_of(book);
-    answer_line(text, answer, part(&key, 0, h.m as usize))
+    match looked_up(book, iccid) {
+        Ok(Some(key)) => key_line(text, part(&key, 0, front_of(book).m as usize)),
+        Ok(None) => append(text, 0, b"absent\n"),
+        Err(refusal) => refused_line(text, 0, u8::from(refusal)),
+    }
 }

@@ -8,7 +8,7 @@ use Rattle.label.specs.Tests.{are_digits, are_last, all_of, is_label}
 use Rattle.book_form.specs.Book.{key_of, front_in, table_in, fields_in}
 use Rattle.book_form.specs.Labels.{label_at}
 use Rattle.book_reader.proofs.Examples.{label_ending, three_cards, worked_book}
-use Rattle.book_lookup.specs.declared.Answer.TheVariants.{Found, Absent}
+use Rattle.book_lookup.specs.Answer.{Found, Absent}
 use Rattle.book_lookup.specs.Lookup.{lookup_refusal, place_in, key_in, no_key, lookup_at, lookup_of}
 
 pub worked_found : lookup_of three_cards (label_ending 16 243) ≡ record { answer = Found; key = as_vector (5 ∷ 6 ∷ []) }

@@ -5,6 +5,8 @@ use mathlib.Core.Path.{◌≡◌, refl, sym, ap, subst, ◌∙◌}
 use mathlib.Core.Bool.{Bool, true, false}
 use mathlib.Core.Logic.{◌↔◌}
 use mathlib.Core.List.{List}
+use Rattle.std.specs.Prelude.{Option, Some, None, Result, Ok, Err}
+use Rattle.refusal.specs.declared.Refusal.{Refusal}
 use native.Mathlib.Omega.{arith}
 use lib.Dec.{eqb}
 use lib.ListN.{length}
@@ -12,7 +14,8 @@ use borrow.Author.Tests.{eqb-true, eqb-false, eq-eqb, ne_eqb}
 use Rattle.slices.specs.Slices.{same, number}
 use Rattle.slices.proofs.Sameness.{same_true, same_by}
 use Rattle.field.specs.Vector.{as_vector}
-use Rattle.refusal.specs.Refusal.{first_where}
+use Rattle.refusal.specs.Refusal.{first_where, number as refusal_number, counted as place_counted}
+use Rattle.book_form.proofs.Loops.{some_number}
 use Rattle.refusal.proofs.Refusals.{first_zero, later_zero, test_holds, both_zero, unless_holds, unless_most, or_else_most}
 use Rattle.refusal.proofs.Search.{none_where, where_found}
 use Rattle.label.specs.Label.{WellFormedLabel}
@@ -20,16 +23,14 @@ use Rattle.label.specs.Tests.{is_label}
 use Rattle.label.proofs.Labels.{well_formed as well_formed_label, is_label_lem}
 use Rattle.book_form.specs.declared.layout.Front.{Front}
 use Rattle.book_form.specs.Book.{label_of, key_of, Fields, written, front_in, table_in, fields_in, Valid, WellFormedBook, Bytes}
-use Rattle.book_form.specs.Labels.{label_at, labels_refusal}
+use Rattle.book_form.specs.Labels.{label_at}
 use Rattle.book_form.proofs.BookLayout.{front_written, fields_written, label_written}
-use Rattle.book_form.proofs.Rising.{none_refused, one_card}
+use Rattle.book_form.proofs.Rising.{one_card}
 use Rattle.book_reader.specs.Reader.{book_refusal}
-use Rattle.book_reader.proofs.WellFormed.{accepted, written_accepted, well_formed, refusal_most}
-use Rattle.book_lookup.specs.declared.Answer.{Answer}
-use Rattle.book_lookup.specs.declared.Answer.TheVariants.{Found, Absent, Refused}
-use Rattle.book_lookup.specs.declared.LookedUp.{LookedUp}
+use Rattle.book_reader.proofs.WellFormed.{written_accepted, well_formed, refusal_most}
 use Rattle.book_lookup.specs.Claim.{HasLabel, RightAnswer}
-use Rattle.book_lookup.specs.Lookup.{place_in, key_in, no_key, lookup_at, lookup_refusal, lookup_of, refusal_of}
+use Rattle.book_lookup.specs.Answer.{Answer, Found, Absent, Refused, LookedUp}
+use Rattle.book_lookup.specs.Lookup.{place_in, key_in, no_key, lookup_at, lookup_refusal, lookup_of, refusal_of, answered}
 
 -- ---- the three cases
 
@@ -46,10 +47,29 @@ pub looked_found : (b label : List ℕ) → lookup_refusal b label ≡ 0 → (pl
 unfolding lookup_of lookup_at
 looked_found b label none somewhere = simp (eq-eqb (lookup_refusal b label) 0 none, ne_eqb (place_in (table_in b) (front_in b).count label) 0 somewhere)
 
--- the labels of a book that is not refused rise
-pub labels_not_refused : (b label : List ℕ) → lookup_refusal b label ≡ 0 → labels_refusal 14 (front_in b).count (table_in b) ≡ 0
+-- ---- the code's answers
+
+pub answered_refused : (b label : List ℕ) (answer : Result (Option (List ℕ)) Refusal) (refusal : Refusal) → answer ≡ Err refusal → refusal_number refusal ≡ lookup_refusal b label →
+    answered answer ≡ lookup_of b label
+answered_refused b label answer refusal handed is =
+    rw handed (ap (λ (k : ℕ). no_key (Refused k)) is ∙ sym (looked_refused b label (λ none. some_number refusal (is ∙ none))))
+
+pub answered_none : (b label : List ℕ) (place : Option ℕ) → 0 ≡ lookup_refusal b label → place_counted place ≡ place_in (table_in b) (front_in b).count label →
+    place ≡ None → answered (Ok None) ≡ lookup_of b label
+answered_none b label place taken here none = sym (looked_absent b label (sym taken) (sym here ∙ ap place_counted none))
+
+pub answered_some : (b label key : List ℕ) (place : Option ℕ) (i : ℕ) → 0 ≡ lookup_refusal b label → place_counted place ≡ place_in (table_in b) (front_in b).count label →
+    place ≡ Some i → key ≡ key_in b i → answered (Ok (Some key)) ≡ lookup_of b label
+answered_some b label key place i taken here some is =
+    let at : i + 1 ≡ place_in (table_in b) (front_in b).count label = sym (ap place_counted some) ∙ here in
+    let index : i ≡ place_in (table_in b) (front_in b).count label - 1 = omega (arith, at) in
+    let found = is ∙ ap (key_in b) index in
+    (λ j. record { answer = Found; key = found j }) ∙ sym (looked_found b label (sym taken) (λ nowhere. absurd (omega (arith, at, nowhere))))
+
+-- the book is not refused where the call is not
+pub book_taken : (b label : List ℕ) → 0 ≡ lookup_refusal b label → book_refusal b ≡ 0
 unfolding lookup_refusal
-labels_not_refused b label none = none_refused 14 (front_in b).count (table_in b) (accepted b (first_zero _ _ none)).labels_rise
+book_taken b label none = first_zero _ _ (sym none)
 
 -- ---- the claims
 

@@ -1,41 +1,53 @@
--- A search that leaves out half of the cards each time, and the card that it ends at. Assumes nothing.
-use Prim.Native.Nat.{ℕ, ◌+◌, ◌≤◌, ◌<◌}
-use mathlib.Core.Path.{◌≡◌, refl, sym, ap, subst, ◌∙◌}
+-- Where the labels of a table stand below another, and the card that the search ends at. Assumes nothing.
+use Prim.Native.Nat.{ℕ, zero, suc, ◌+◌, ◌*◌, ◌/◌, ◌≤◌, ◌<◌}
+use mathlib.Core.Path.{◌≡◌, refl, sym, ap, ap₂, subst, ◌∙◌}
 use mathlib.Core.Bool.{Bool, true, false, false≢true}
 use mathlib.Core.Logic.{⊎_elim}
-use mathlib.Core.List.{List}
-use native.Mathlib.Nat.{not-suc-le-zero, eq-or-lt_of_le}
+use mathlib.Core.List.{List, []}
+use native.Mathlib.Nat.{not-suc-le-zero, eq-or-lt_of_le, le_of_suc-le-suc}
 use native.Mathlib.Decide.{dec_lt}
 use native.Mathlib.Omega.{arith}
-use lib.ListN.{length}
+use lib.ListN.{length, take, drop, get_or}
+use lib.Seq.{take-take, drop-drop}
+use Rattle.std.specs.Simd.{first_chunks}
+use Rattle.std.specs.Bool.{then_some}
+use Rattle.std.specs.List.Sorted.{IsPartitionedBy, IsPartitionPoint}
 use Rattle.slices.specs.Slices.{same}
 use Rattle.slices.proofs.Sameness.{same_true}
+use Rattle.refusal.specs.Refusal.{counted}
 use Rattle.refusal.proofs.Search.{none_where, where_found}
 use Rattle.label.specs.Label.{Below}
 use Rattle.label.specs.Tests.{is_below}
 use Rattle.label.proofs.Labels.{below, is_below_lem, below_ten}
 use Rattle.label.proofs.Order.{below_trans, not_below_itself}
 use Rattle.book_form.specs.Labels.{label_at, labels_refusal}
-use Rattle.book_form.proofs.Rising.{Rising, rising, below_later}
+use Rattle.book_form.specs.Book.{front_in, table_in}
+use Rattle.book_form.proofs.BookLayout.{table_size}
+use Rattle.book_form.proofs.Rising.{Rising, rising, none_refused, below_later}
+use Rattle.book_reader.specs.Reader.{book_refusal}
+use Rattle.book_reader.proofs.WellFormed.{accepted}
 use Rattle.book_lookup.specs.Lookup.{place_in, LowerBound}
 
--- what the search knows: the labels before low stand below, and those from high on do not
-pub record Between (table : List ℕ) (count : ℕ) (label : List ℕ) (low high : ℕ) : Type 0 where
-  pub ordered : low ≤ high
-  pub within : high ≤ count
-  pub before : (i : ℕ) → i < low → is_below (label_at 14 table i) label ≡ true
-  pub behind : (i : ℕ) → high ≤ i → i < count → is_below (label_at 14 table i) label ≡ false
+-- ---- the entries of a table
 
-pub all_left : (table : List ℕ) (count : ℕ) (label : List ℕ) → Between table count label 0 count
-all_left table count label =
-    record { ordered = omega arith; within = omega arith; before = λ i h. absurd (not-suc-le-zero h); behind = λ i h k. absurd (omega (arith, h, k)) }
+-- whether an entry's label stands below another
+abbrev pub entry_below : List ℕ → List ℕ → Bool
+entry_below label entry = is_below (take 10 entry) label
 
--- nothing is left
-pub bound : (table : List ℕ) (count : ℕ) (label : List ℕ) (low high : ℕ) → high ≤ low → Between table count label low high → LowerBound table count label low
-bound table count label low high end b =
-    let ordered = b.ordered in
-    let within = b.within in
-    record { within = omega (arith, ordered, within); before = b.before; behind = λ i from below. b.behind i (omega (arith, from, end)) below }
+entry_at : (t : List ℕ) (k i : ℕ) (d : List ℕ) → i < k → get_or (first_chunks 14 k t) i d ≡ take 14 (drop (i * 14) t)
+entry_at t zero i d h = absurd (not-suc-le-zero h)
+entry_at t (suc k) zero d h = refl
+entry_at t (suc k) (suc i) d h =
+    let next : i * 14 + 14 ≡ suc i * 14 = omega arith in
+    entry_at (drop 14 t) k i d (le_of_suc-le-suc h) ∙ ap (take 14) (drop-drop (i * 14) 14 t) ∙ ap (λ (n : ℕ). take 14 (drop n t)) (omega arith)
+
+pub label_entry : (t : List ℕ) (k i : ℕ) (d : List ℕ) → i < k → take 10 (get_or (first_chunks 14 k t) i d) ≡ label_at 14 t i
+unfolding label_at
+label_entry t k i d h = ap (take 10) (entry_at t k i d h) ∙ take-take 10 14 (drop (i * 14) t) (omega arith)
+
+length-entries : (k : ℕ) (t : List ℕ) → length (first_chunks 14 k t) ≡ k
+length-entries zero t = refl
+length-entries (suc k) t = ap suc (length-entries k (drop 14 t))
 
 module _ (table : List ℕ) (count : ℕ) (label : List ℕ) (none : labels_refusal 14 count table ≡ 0) where
   rises : Rising count (label_at 14 table)
@@ -50,31 +62,26 @@ module _ (table : List ℕ) (count : ℕ) (label : List ℕ) (none : labels_refu
       (below_trans (label_at 14 table i) (label_at 14 table j) label (below_later count (label_at 14 table) rises i j less k) (below (label_at 14 table j) label e)))
       (eq-or-lt_of_le h)
 
-  -- and does not if an earlier one's does not
-  not_below_later : (i j : ℕ) → i ≤ j → j < count → is_below (label_at 14 table i) label ≡ false → is_below (label_at 14 table j) label ≡ false
-  not_below_later i j h k not_below = go (is_below (label_at 14 table j) label) refl
-    where
-      go : (t : Bool) → is_below (label_at 14 table j) label ≡ t → is_below (label_at 14 table j) label ≡ false
-      go true e = absurd (false≢true (sym not_below ∙ below_earlier i j h k e))
-      go false e = e
+  abbrev pub entries : List (List ℕ)
+  entries = first_chunks 14 count table
 
-  -- the upper half is left, or the lower
-  pub upper_left : (low high middle next : ℕ) → low ≤ middle → middle < high → next ≡ middle + 1 → is_below (label_at 14 table middle) label ≡ true →
-      Between table count label low high → Between table count label next high
-  upper_left low high middle next h k later e b =
-      let within = b.within in
+  -- the labels before some place stand below, and no later one does
+  pub parted : IsPartitionedBy (entry_below label) entries
+  parted i j d h k e =
+      let below : j < count = rw (length-entries count table) at k in
+      let label_j = label_entry table count j d below in
+      let label_i = label_entry table count i d (omega (arith, h, below)) in
+      rw label_i (below_earlier i j h below (rw label_j at e))
+
+  pub bound : (place : ℕ) → place ≤ length entries → IsPartitionPoint (λ e. entry_below label e ≡ true) (λ e. entry_below label e ≡ false) entries place → LowerBound table count label place
+  bound place within (before, behind) =
+      let all = length-entries count table in
+      let inside : place ≤ count = rw all at within in
       record {
-        ordered = omega (arith, k, later);
-        within = within;
-        before = λ i below. below_earlier i middle (omega (arith, below, later)) (omega (arith, k, within)) e;
-        behind = b.behind;
+        within = inside;
+        before = λ i h. rw (label_entry table count i [] (omega (arith, h, inside))) at (before i [] (omega arith) h);
+        behind = λ i from below. rw (label_entry table count i [] below) at (behind i [] from (rw all below));
       }
-
-  pub lower_left : (low high middle : ℕ) → low ≤ middle → middle < high → is_below (label_at 14 table middle) label ≡ false →
-      Between table count label low high → Between table count label low middle
-  lower_left low high middle h k e b =
-      let within = b.within in
-      record { ordered = h; within = omega (arith, k, within); before = b.before; behind = λ i from below. not_below_later middle i from below e }
 
   -- ---- the card at the bound
 
@@ -115,3 +122,25 @@ module _ (table : List ℕ) (count : ℕ) (label : List ℕ) (none : labels_refu
             ⊎_elim (λ (here : r ≡ i). subst (λ (k : ℕ). same (label_at 14 table k) label ≡ false) here (differs (omega (arith, here, h))))
             (λ (later : r < i). other_behind r i later h (b.behind r (omega arith) (omega (arith, later, h)))) (eq-or-lt_of_le from)
       ]))
+
+  -- the place of the card at the bound, where it has the label
+  pub place_at : (place : ℕ) (t : Bool) → LowerBound table count label place → place < count → t ≡ same (label_at 14 table place) label →
+      counted (then_some t place) ≡ place_in table count label
+  place_at place true b h is = place_found place true b h is refl
+  place_at place false b h is = place_none place b (λ below. sym is)
+
+-- ---- a book that is not refused
+
+pub labels_rise : (b : List ℕ) → book_refusal b ≡ 0 → labels_refusal 14 (front_in b).count (table_in b) ≡ 0
+labels_rise b none = none_refused 14 (front_in b).count (table_in b) (accepted b none).labels_rise
+
+-- its table as chunks
+pub entries_of : (b t : List ℕ) (es : List (List ℕ)) → book_refusal b ≡ 0 → t ≡ table_in b → es ≡ first_chunks 14 (length t / 14) t →
+    (es ≡ first_chunks 14 (front_in b).count (table_in b)) × (length es ≡ (front_in b).count) × (length es ≤ 2000)
+entries_of b t es none table chunks =
+    let k = accepted b none in
+    let size = ap length table ∙ table_size b k.laid_out in
+    let whole : length t / 14 ≡ (front_in b).count = omega (arith, size) in
+    let is = chunks ∙ ap₂ (first_chunks 14) whole table in
+    let long = ap length is ∙ length-entries (front_in b).count (table_in b) in
+    (is, long, omega (arith, long, k.count_value))

@@ -2,8 +2,7 @@
 use Rattle.std.specs.Prelude.{ℕ, ◌<◌, ◌≡◌, ◌↔◌, List}
 use Rattle.field.specs.Vector.{as_vector}
 use Rattle.book_form.specs.Book.{label_of, key_of, Fields}
-use Rattle.book_lookup.specs.declared.Answer.TheVariants.{Found, Absent}
-use Rattle.book_lookup.specs.declared.LookedUp.{LookedUp}
+use Rattle.book_lookup.specs.Answer.{Found, Absent, LookedUp}
 
 -- card i of a book has the label
 abbrev pub HasLabel : Fields → List ℕ → ℕ → Type 0

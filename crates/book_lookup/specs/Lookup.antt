@@ -1,15 +1,14 @@
 -- The lookup's answer: document 02, paper 2, "a lookup that answers the key, or absent exactly when no entry has the label".
-use Rattle.std.specs.Prelude.{ℕ, ◌-◌, ◌≤◌, ◌<◌, ◌≡◌, true, false, cond, List, eqb, length}
+use Rattle.std.specs.Prelude.{ℕ, ◌-◌, ◌≤◌, ◌<◌, ◌≡◌, true, false, cond, List, eqb, length, Option, Some, None, Result, Ok, Err}
 use Rattle.slices.specs.Slices.{same, zeros}
-use Rattle.refusal.specs.Refusal.{unless, ◌or_else◌, first_where}
+use Rattle.refusal.specs.declared.Refusal.{Refusal}
+use Rattle.refusal.specs.Refusal.{unless, ◌or_else◌, first_where, number}
 use Rattle.field.specs.Vector.{as_vector}
 use Rattle.label.specs.Tests.{is_label, is_below}
 use Rattle.book_form.specs.Book.{key_of, front_in, table_in, fields_in}
 use Rattle.book_form.specs.Labels.{label_at}
 use Rattle.book_reader.specs.Reader.{book_refusal}
-use Rattle.book_lookup.specs.declared.Answer.{Answer}
-use Rattle.book_lookup.specs.declared.Answer.TheVariants.{Found, Absent, Refused}
-use Rattle.book_lookup.specs.declared.LookedUp.{LookedUp}
+use Rattle.book_lookup.specs.Answer.{Answer, Found, Absent, Refused, LookedUp}
 
 -- "a label looked up comes last, 2 before 12"
 unfoldable pub lookup_refusal : List ℕ → List ℕ → ℕ
@@ -39,6 +38,12 @@ unfoldable pub refusal_of : Answer → ℕ
 refusal_of Found = 0
 refusal_of Absent = 0
 refusal_of (Refused number) = number
+
+-- the case, the number and the values of each answer of the code
+abbrev pub answered : Result (Option (List ℕ)) Refusal → LookedUp
+answered (Ok (Some key)) = record { answer = Found; key = key }
+answered (Ok None) = no_key Absent
+answered (Err refusal) = no_key (Refused (number refusal))
 
 -- ---- the search
 

@@ -1,5 +1,5 @@
 -- The reader's answer: document 02, paper 2.
-use Rattle.std.specs.Prelude.{ℕ, cond, List, leb, eqb, length, take, drop}
+use Rattle.std.specs.Prelude.{ℕ, List, leb, eqb, length, take, drop}
 use Rattle.slices.specs.Slices.{piece, number}
 use Rattle.refusal.specs.Refusal.{unless, ◌or_else◌, first_of}
 use Rattle.field.specs.Vector.{all_below}
@@ -7,8 +7,6 @@ use Rattle.book_form.specs.declared.layout.Front.{Front}
 use Rattle.book_form.specs.Book.{offset_of, book_length, front_in, table_in, fields_in}
 use Rattle.book_form.specs.Values.{values_refusal}
 use Rattle.book_form.specs.Labels.{labels_refusal}
-use Rattle.book_reader.specs.declared.Reading.{Reading}
-use Rattle.book_reader.specs.declared.Reading.TheVariants.{Good, Refused}
 
 -- the four bytes behind card i's label are where its key starts
 unfoldable pub offset_refusal : Front → List ℕ → ℕ → ℕ
@@ -33,12 +31,3 @@ book_refusal b =
     offsets_refusal h (table_in b) or_else
     labels_refusal 14 h.count (table_in b) or_else
     unless (all_below h.q (fields_in b).keys) 3
-
--- this document's number for each of the answer's cases
-unfoldable pub refusal_of : Reading → ℕ
-refusal_of (Good front) = 0
-refusal_of (Refused number) = number
-
--- count, q, n and m where nothing is refused, else the refusal's number
-unfoldable pub reading_of : List ℕ → Reading
-reading_of b = cond (eqb (book_refusal b) 0) (Good (front_in b)) (Refused (book_refusal b))

@@ -1,29 +1,22 @@
 // The reader of key books.
 //
-// The entry `read` takes any bytes and answers count, q, n and m, or the number of the refusal: 6 for under 7 bytes or a count
-// above 2,000, 1 for q, n or m, 6 for the length or an offset of the table, then 12 or 13 for the first label at fault, then 3
-// for a key byte.
+// The entry `read` takes any bytes and answers count, q, n and m, or the refusal: Form for under 7 bytes or a count above 2,000,
+// Value for q, n or m, Form for the length or an offset of the table, then LabelHalf or LabelOrder for the first label at fault,
+// then Element for a key byte.
 #![tactic(auto)]
 
-ghost use Rattle.std.specs.Prelude.{◌≡◌, ◌+◌, ◌*◌, ◌≤◌, length};
+ghost use Rattle.std.specs.Prelude.{◌≡◌, ◌+◌, ◌*◌, ◌≤◌, length, IfOk};
+ghost use Rattle.refusal.specs.Refusal.{number_of};
 ghost use Rattle.book_form.specs.Book.{key_of, front_in, table_in, fields_in};
-ghost use Rattle.book_reader.specs.Reader.{offset_refusal, offsets_refusal, front_refusal, book_refusal, refusal_of, reading_of};
+ghost use Rattle.book_reader.specs.Reader.{offset_refusal, offsets_refusal, front_refusal, book_refusal};
 
-use book_form::{
-    Front, book_length, labels_refusal, of_cards, offset_of, table_length, values_refusal,
-};
+use book_form::{Front, Labels, of_cards, table_length};
 use field::all_below;
-use refusal::{first, unless};
+use refusal::{Refusal, require};
 use slices::{byte_at, number, part};
 
-// The answer to a book: what stands before its table, or why it is refused.
-#[derive(Clone, Copy)]
-pub enum Reading {
-    Good(Front),
-    Refused(u8),
-}
-
 // The count, q, n and m of a book.
+#[tactic(auto, unfolding(book_form::specs::Book::front_in))]
 pub fn front_of(bytes: &[u8]) -> Front
     ensures { result ≡ front_in bytes.now }
 {
@@ -36,10 +29,21 @@ pub fn front_of(bytes: &[u8]) -> Front
 }
 
 // The table of contents, as much as there is of it.
+#[tactic(auto, unfolding(book_form::specs::Book::front_in, book_form::specs::Book::table_in))]
 pub fn table_of(bytes: &[u8]) -> &[u8]
     ensures { result.now ≡ table_in bytes.now }
 {
     part(bytes, 7, table_length(number(bytes)))
+}
+
+// The labels in it.
+pub fn labels_of(bytes: &[u8]) -> Labels<'_>
+    ensures { (result.bytes.now ≡ table_in bytes.now) × (result.each ≡ 14) }
+{
+    Labels {
+        bytes: table_of(bytes),
+        each: 14,
+    }
 }
 
 // What stands behind the table: the keys.
@@ -51,6 +55,7 @@ pub fn keys_of(bytes: &[u8]) -> &[u8]
 }
 
 // The key of card i, counted from 0.
+#[tactic(auto, unfolding(book_form::specs::Book::key_of))]
 pub fn key_at(bytes: &[u8], i: u32) -> &[u8]
     ensures { result.now ≡ key_of (front_in bytes.now) (fields_in bytes.now).keys i }
 {
@@ -58,83 +63,47 @@ pub fn key_at(bytes: &[u8], i: u32) -> &[u8]
     part(keys_of(bytes), of_cards(i, m), m as usize)
 }
 
-// The refusal of card i's offset.
-fn offset_refusal(table: &[u8], h: Front, i: u32) -> u8
+// Refuses card i's offset.
+fn check_offset(table: &[u8], front: Front, i: u32) -> Result<(), Refusal>
     requires { i * 14 + 14 ≤ length table.now }
-    ensures { result ≡ offset_refusal h table.now i }
+    ensures { number_of result ≡ offset_refusal front table.now i }
 {
     let at = of_cards(i, 14);
     let entry = &table[at..at + 14];
     let offset = number(&entry[10..14]);
-    unless(offset as usize == offset_of(h, i), 6)
+    require(offset as usize == front.offset_of(i), Refusal::Form)
 }
 
-// The refusal of the offsets of all cards; it ends at the first.
-fn offsets_refusal(table: &[u8], h: Front) -> u8
-    requires { h.count * 14 ≤ length table.now }
-    ensures { result ≡ offsets_refusal h table.now }
+// Refuses the offsets of all cards: the first that is wrong decides.
+fn check_offsets(table: &[u8], front: Front) -> Result<(), Refusal>
+    requires { front.count * 14 ≤ length table.now }
+    ensures { number_of result ≡ offsets_refusal front table.now }
 {
-    let count = h.count;
-    // the cards that are not looked at yet
-    let mut left = count;
-    while 0 < left {
-        let found = offset_refusal(table, h, count - left);
-        if found != 0 {
-            return found;
-        }
-        left -= 1;
+    for i in 0..front.count {
+        check_offset(table, front, i)?;
     }
-    0
+    Ok(())
 }
 
-// The refusal of what stands before the table.
-fn front_refusal(h: Front, length: usize) -> u8
-    ensures { result ≡ front_refusal h length }
+// Refuses what stands before the table.
+#[tactic(auto, using(book_form::proofs::Loops::chain), unfolding(crate::specs::Reader::front_refusal))]
+fn check_front(front: Front, length: usize) -> Result<(), Refusal>
+    ensures { number_of result ≡ front_refusal front length }
 {
-    let size = unless(7 <= length, 6);
-    let values = values_refusal(h);
-    let whole = unless(length == book_length(h), 6);
-    first(size, first(values, whole))
-}
-
-// The refusal of a book's bytes, 0 for none; it ends at the first.
-fn book_refusal(bytes: &[u8]) -> u8
-    ensures { result ≡ book_refusal bytes.now }
-{
-    let h = front_of(bytes);
-    let in_front = front_refusal(h, bytes.len());
-    if in_front != 0 {
-        return in_front;
-    }
-    let in_table = offsets_refusal(table_of(bytes), h);
-    if in_table != 0 {
-        return in_table;
-    }
-    let in_labels = labels_refusal(table_of(bytes), 14, h.count);
-    if in_labels != 0 {
-        return in_labels;
-    }
-    unless(all_below(h.q, keys_of(bytes)), 3)
+    require(7 <= length, Refusal::Form)?;
+    front.check_values()?;
+    require(length == front.book_length(), Refusal::Form)
 }
 
 // Reads a book: any bytes.
-pub fn read(bytes: &[u8]) -> Reading
-    ensures { (result ≡ reading_of bytes.now) × (refusal_of result ≡ book_refusal bytes.now) }
+pub fn read(bytes: &[u8]) -> Result<Front, Refusal>
+    ensures refusal { number_of result ≡ book_refusal bytes.now }
+    ensures front { IfOk result (λ front. front ≡ front_in bytes.now) }
 {
-    let refused = book_refusal(bytes);
-    if refused == 0 {
-        Reading::Good(front_of(bytes))
-    } else {
-        Reading::Refused(refused)
-    }
-}
-
-// The number of the refusal, 0 for none.
-pub fn refusal_of(reading: Reading) -> u8
-    ensures { result ≡ refusal_of reading }
-{
-    match reading {
-        Reading::Good(_) => 0,
-        Reading::Refused(number) => number,
-    }
+    let front = front_of(bytes);
+    check_front(front, bytes.len())?;
+    check_offsets(table_of(bytes), front)?;
+    labels_of(bytes).check(front.count)?;
+    require(all_below(front.q, keys_of(bytes)), Refusal::Element)?;
+    Ok(front)
 }

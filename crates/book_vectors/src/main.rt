@@ -9,15 +9,17 @@ mod write;
 use crate::lookup::lookup_case;
 use crate::read::read_case;
 use crate::write::write_case;
-use cases::Outcome;
+use cases::{BOOK, Case, FILE, Kind, run_cases};
+use files::read_input;
+use slices::zeros;
 
 fn main(rt: HostRuntime) {
-    let mut file = cases::file_buffer();
-    let length = files::read_input(&rt, &mut file);
-    let mut labels = cases::book_buffer();
-    let mut keys = cases::book_buffer();
-    let mut book = cases::book_buffer();
-    let mut out = cases::book_buffer();
+    let mut file = zeros::<FILE>();
+    let length = read_input(&rt, &mut file);
+    let mut labels = zeros::<BOOK>();
+    let mut keys = zeros::<BOOK>();
+    let mut book = zeros::<BOOK>();
+    let mut out = zeros::<BOOK>();
     run(
         &rt,
         &file[..length],
@@ -28,7 +30,6 @@ fn main(rt: HostRuntime) {
     );
 }
 
-// Runs each case in turn. A position that does not move on ends the run.
 fn run<R: Print>(
     rt: &R,
     file: &[u8],
@@ -37,35 +38,22 @@ fn run<R: Print>(
     book: &mut [u8],
     out: &mut [u8],
 ) {
-    let mut state = cases::begin(rt, file);
-    let mut at = state.at;
-    while at < file.len() {
-        let outcome = run_case(file, at, labels, keys, book, out);
-        state = cases::after(rt, file, state, outcome);
-        let next = state.at;
-        if next <= at {
-            return;
-        }
-        at = next;
-    }
+    run_cases(rt, file, |case| run_case(case, labels, keys, book, out));
 }
 
-// Runs the case at `at` by its kind. A case of another kind is malformed. The book that is read or looked up in is expanded into
-// the buffer for the one that the writer must write.
+// Runs a case by its kind. One that is no book's is malformed. The book that is read or looked up in is expanded into the buffer
+// for the one that the writer must write.
 fn run_case(
-    file: &[u8],
-    at: usize,
+    case: Case,
     labels: &mut [u8],
     keys: &mut [u8],
     book: &mut [u8],
     out: &mut [u8],
-) -> Outcome {
-    let head = cases::head_at(file, at);
-    let kind = head.kind;
-    match kind {
-        24 => read_case(file, head, book),
-        25 => write_case(file, head, labels, keys, book, out),
-        26 => lookup_case(file, head, book),
-        _ => cases::malformed(),
+) -> Option<bool> {
+    match case.kind {
+        Kind::ReadBook => read_case(case, book),
+        Kind::WriteBook => write_case(case, labels, keys, book, out),
+        Kind::LookUp => lookup_case(case, book),
+        _ => None,
     }
 }

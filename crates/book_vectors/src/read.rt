@@ -1,14 +1,10 @@
 // Cases of the reader: the book's first seven bytes.
-use cases::{Head, Outcome};
-use slices::part;
+use cases::Case;
 
-pub fn read_case(file: &[u8], head: Head, buffer: &mut [u8]) -> Outcome {
-    let book = cases::load(file, head.next, buffer);
-    let expected = cases::load_small(file, book.next);
-    let mut out = [head.fill; 512];
-    let number = capi_books::read_fields(
-        part(buffer, 0, book.length),
-        cases::front(&mut out, expected.length),
-    );
-    cases::compared(expected, number == head.number, out)
+pub fn read_case(mut case: Case, buffer: &mut [u8]) -> Option<bool> {
+    let book = case.pieces.load(buffer)?;
+    let expected = case.pieces.small()?;
+    let mut out = [case.fill; 512];
+    let number = capi_books::read_fields(book, &mut out[..expected.length]);
+    Some(case.agrees(number, &expected, &out))
 }

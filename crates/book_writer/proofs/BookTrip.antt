@@ -3,6 +3,10 @@ use Prim.Native.Nat.{ℕ, ◌*◌, ◌<◌}
 use mathlib.Core.Path.{◌≡◌, refl, sym, ap, ◌∙◌}
 use mathlib.Core.Logic.{◌↔◌}
 use mathlib.Core.List.{List}
+use Rattle.std.specs.Prelude.{Result, Ok, IfOk}
+use Rattle.refusal.specs.declared.Refusal.{Refusal}
+use Rattle.refusal.specs.Refusal.{number_of}
+use Rattle.book_form.specs.declared.layout.Front.{Front}
 use native.Mathlib.Omega.{arith}
 use lib.ListN.{length}
 use borrow.Author.Tests.{eq-eqb}
@@ -15,8 +19,7 @@ use Rattle.book_form.specs.Labels.{label_at}
 use Rattle.book_form.proofs.BookLayout.{front_written, fields_written, written_fields}
 use Rattle.book_form.proofs.RightValues.{few_cards, right_sizes, right_values}
 use Rattle.book_form.proofs.Rising.{rising, none_refused}
-use Rattle.book_reader.specs.Reader.{book_refusal, reading_of}
-use Rattle.book_reader.specs.declared.Reading.TheVariants.{Good}
+use Rattle.book_reader.specs.Reader.{book_refusal}
 use Rattle.book_reader.proofs.Readings.{reading_good}
 use Rattle.book_reader.proofs.WellFormed.{accepted, valid_fields, written_accepted}
 use Rattle.book_writer.specs.Writer.{lengths_refusal, write_refusal}
@@ -83,13 +86,15 @@ write_takes f out = (
   λ k. ap (write_refusal f) k.1 ∙ valid_taken f k.0,
 )
 
--- "reading what the writer wrote gives the fields back"
-pub read_written : (f : Fields) (out : ℕ) → write_refusal f out ≡ 0 → (reading_of (written f) ≡ Good f.front) × (fields_in (written f) ≡ f)
+-- "reading what the writer wrote gives the fields back": the reader's answer, which its contract gives, is count, q, n and m
+pub read_written : (f : Fields) (out : ℕ) → write_refusal f out ≡ 0 →
+    ((answer : Result Front Refusal) → number_of answer ≡ book_refusal (written f) → IfOk answer (λ front. front ≡ front_in (written f)) → answer ≡ Ok f.front) ×
+    (fields_in (written f) ≡ f)
 read_written f out none =
     let v = (taken f out none).valid in
     let few = v.count_value in
     let small : f.front.count < 4294967296 = omega (arith, few) in (
-      reading_good (written f) (written_accepted f v) ∙ ap Good (front_written f v.labels_length small),
+      λ answer number front. reading_good (written f) answer number front (written_accepted f v) ∙ ap Ok (front_written f v.labels_length small),
       fields_written f v.labels_length small,
     )
 

@@ -9,9 +9,7 @@ use lib.Dec.{eqb}
 use borrow.Author.Tests.{eqb-false}
 use Rattle.slices.proofs.Booleans.{either}
 use Rattle.book_form.specs.Book.{front_in, table_in}
-use Rattle.book_lookup.specs.declared.Answer.{Answer}
-use Rattle.book_lookup.specs.declared.Answer.TheVariants.{Found, Absent, Refused}
-use Rattle.book_lookup.specs.declared.LookedUp.{LookedUp}
+use Rattle.book_lookup.specs.Answer.{Answer, Found, Absent, Refused, LookedUp}
 use Rattle.book_lookup.specs.Lookup.{place_in, no_key, lookup_at, lookup_refusal, lookup_of}
 use Rattle.book_lookup.proofs.Lookups.{lookup_most}
 use Rattle.capi_books.specs.Numbers.{answer_number}

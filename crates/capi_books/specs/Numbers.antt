@@ -2,8 +2,7 @@
 use Rattle.std.specs.Prelude.{ℕ, List, eqb}
 use Rattle.refusal.specs.Refusal.{unless, ◌or_else◌}
 use Rattle.book_reader.specs.Reader.{book_refusal}
-use Rattle.book_lookup.specs.declared.Answer.{Answer}
-use Rattle.book_lookup.specs.declared.Answer.TheVariants.{Found, Absent, Refused}
+use Rattle.book_lookup.specs.Answer.{Answer, Found, Absent, Refused}
 use Rattle.book_lookup.specs.Lookup.{lookup_of}
 
 -- canvasfox.h: "2 where fields has not 7 bytes, whatever the book is; then the book's own"

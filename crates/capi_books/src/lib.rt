@@ -1,63 +1,43 @@
-// The reader and the lookup of key books for the C interface, where an answer is one number and an output is lent.
+// The reader and the lookup of key books for the C interface, where outputs are lent.
 //
-// Each takes any bytes. It answers 0, or the number of the refusal, and then the output is what it was; the lookup answers 255
-// where the label is absent.
+// Each takes any bytes. On a refusal the output is what it was.
 #![tactic(auto)]
 
 ghost use Rattle.std.specs.Prelude.{◌≡◌, length, take};
-ghost use Rattle.refusal.specs.Refusal.{kept};
+ghost use Rattle.refusal.specs.Refusal.{kept, number_of};
 ghost use Rattle.book_lookup.specs.Lookup.{lookup_of};
-ghost use Rattle.capi_books.specs.Numbers.{book_fields_refusal, answer_number, lookup_number};
+ghost use Rattle.capi_books.specs.Numbers.{book_fields_refusal, lookup_number};
 
-use book_lookup::{Answer, lookup};
-use book_reader::{read, refusal_of};
-use refusal::unless;
-use slices::{part, put};
+use book_lookup::lookup;
+use book_reader::read;
+use refusal::{Refusal, require};
 
 // A book's first seven bytes.
-pub fn read_fields(book: &[u8], fields: &mut [u8]) -> u8
-    ensures { (result ≡ book_fields_refusal book.now (length fields.old))
-        × (fields.new ≡ kept result fields.old (take 7 book.now)) }
+pub fn read_fields(book: &[u8], fields: &mut [u8]) -> Result<(), Refusal>
+    ensures { (number_of result ≡ book_fields_refusal book.now (length fields.old))
+        × (fields.new ≡ kept (number_of result) fields.old (take 7 book.now)) }
 {
-    let of_length = unless(fields.len() == 7, 2);
-    if of_length != 0 {
-        return of_length;
-    }
-    let refused = refusal_of(read(book));
-    if refused != 0 {
-        return refused;
-    }
-    put(fields, 0, part(book, 0, 7));
-    0
+    require(fields.len() == 7, Refusal::Length)?;
+    read(book)?;
+    let first = &book[..7];
+    fields.copy_from_slice(first);
+    Ok(())
 }
 
-// An answer as one number.
-fn answer_number(answer: Answer) -> u8
-    ensures { result ≡ answer_number answer }
-{
-    match answer {
-        Answer::Found => 0,
-        Answer::Absent => 255,
-        Answer::Refused(number) => number,
-    }
-}
-
-// The key of the card with this label.
+// The key of the card with this label. The C interface needs one number: 0 where it is found, 255 where it is absent, else the refusal's.
 pub fn lookup_key<'a>(book: &'a [u8], label: &'a [u8], key: &mut [u8]) -> u8
     ensures { (result ≡ lookup_number book.now label.now (length key.old))
         × (key.new ≡ kept result key.old (lookup_of book.now label.now).key) }
 {
-    let of_length = unless(key.len() == 96, 2);
-    if of_length != 0 {
-        return of_length;
+    if key.len() != 96 {
+        return u8::from(Refusal::Length);
     }
-    let looked = lookup(book, label);
-    let answer = looked.answer;
-    let number = answer_number(answer);
-    if number != 0 {
-        return number;
+    match lookup(book, label) {
+        Ok(Some(found)) => {
+            key.copy_from_slice(&found);
+            0
+        }
+        Ok(None) => 255,
+        Err(refusal) => u8::from(refusal),
     }
-    let found = looked.key;
-    put(key, 0, &found);
-    0
 }

@@ -5,10 +5,9 @@ mod refusals;
 mod session;
 
 pub use refusals::{
-    alpha_refusal, challenge_refusal, commitments_refusal, middle_refusal, open_refusal,
-    reply_refusal,
+    check_alpha, check_challenge, check_commitments, check_middle, check_open, check_reply,
 };
 pub use session::{
-    Carrier, CarrierAnswer, CarrierPhase, Judged, answer, carrier_domain, carrier_with,
-    closed_carrier, held_commitments, held_turn, no_turn,
+    Carrier, CarrierPhase, carrier_domain, carrier_with, closed_carrier, held_commitments,
+    held_turn, no_turn,
 };

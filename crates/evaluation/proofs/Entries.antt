@@ -1,10 +1,13 @@
 -- What the entries over slices know where they refuse nothing, and what they then write. Assumes nothing.
 use Prim.Native.Nat.{ℕ}
-use mathlib.Core.Path.{◌≡◌, ap, ap₂, ◌∙◌}
+use mathlib.Core.Path.{◌≡◌, sym, ap, ap₂, ◌∙◌}
 use mathlib.Core.List.{List}
 use lib.ListN.{length, take}
 use Rattle.slices.specs.Slices.{◌!◌}
+use Rattle.refusal.specs.Refusal.{kept}
 use Rattle.refusal.proofs.Refusals.{first_zero, later_zero, equal_holds}
+use Rattle.refusal.proofs.Refusals.{or_else_assoc}
+use Rattle.refusal.proofs.Answers.{refusal_decides, none_decides, refused_kept, none_kept}
 use Rattle.field.specs.Vector.{vector}
 use Rattle.system.specs.System.{n_of, m_of, system_refusal, F, G}
 use Rattle.evaluation.specs.Entry.{evaluate_refusal, polar_refusal}
@@ -26,9 +29,6 @@ module _ (b x : List ℕ) (out : ℕ) (h : evaluate_refusal b x out ≡ 0) where
   unfolding evaluate_refusal
   evaluate_out = equal_holds out (m_of b) 2 tt (later_zero _ _ (first_zero _ _ (later_zero _ _ h)))
 
-  pub evaluate_value : F b (vector (length x) (λ i. x ! i)) ≡ F b x
-  evaluate_value = ap (λ (n : ℕ). F b (vector n (λ i. x ! i))) evaluate_x ∙ F_held b (accepted b evaluate_system).n_high x
-
 -- ---- polar
 
 module _ (b x y : List ℕ) (out : ℕ) (h : polar_refusal b x y out ≡ 0) where
@@ -48,11 +48,21 @@ module _ (b x y : List ℕ) (out : ℕ) (h : polar_refusal b x y out ≡ 0) wher
   unfolding polar_refusal
   polar_out = equal_holds out (m_of b) 2 tt (later_zero _ _ (later_zero _ _ (first_zero _ _ (later_zero _ _ h))))
 
-  pub polar_value : G b (vector (length x) (λ i. x ! i)) (vector (length y) (λ i. y ! i)) ≡ G b x y
-  polar_value =
-      ap₂ (λ (n m : ℕ). G b (vector n (λ i. x ! i)) (vector m (λ i. y ! i))) polar_x polar_y ∙ G_held b (accepted b polar_system).n_high x y
-
 -- ---- what is written
 
-pub written : (value result l : List ℕ) (k m : ℕ) → result ≡ value → k ≡ m → l ≡ take k result → l ≡ take m value
-written value result l k m same long copied = copied ∙ ap₂ take long same
+-- an argument of n bytes, as the vector that it is taken for
+module _ (b x : List ℕ) (good : system_refusal b ≡ 0) (long : length x ≡ n_of b) where
+  pub F_taken : F b (vector (length x) (λ i. x ! i)) ≡ F b x
+  F_taken = ap (λ (n : ℕ). F b (vector n (λ i. x ! i))) long ∙ F_held b (accepted b good).n_high x
+
+  pub G_taken : (y : List ℕ) → length y ≡ n_of b → G b (vector (length x) (λ i. x ! i)) (vector (length y) (λ i. y ! i)) ≡ G b x y
+  G_taken y other = ap₂ (λ (n m : ℕ). G b (vector n (λ i. x ! i)) (vector m (λ i. y ! i))) long other ∙ G_held b (accepted b good).n_high x y
+
+-- the first m elements of the value are copied out
+pub written : (value : List ℕ → List ℕ) (b system result out l : List ℕ) → system ≡ b → length out ≡ m_of system → result ≡ value system →
+    l ≡ take (length out) result → l ≡ kept 0 out (take (m_of b) (value b))
+written value b system result out l same long is copied =
+    copied ∙ ap₂ take (long ∙ ap m_of same) (is ∙ ap value same) ∙ sym (none_kept out _)
+
+-- what a chain of answers and the output's state need
+pub ruleset answers = (or_else_assoc, refusal_decides, none_decides, refused_kept, none_kept)

@@ -3,5 +3,5 @@ pub mod Ops
 pub mod Field
 pub mod Prime
 pub mod Vector
-pub mod Operation
+pub mod Combined
 pub mod Row

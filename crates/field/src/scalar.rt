@@ -3,19 +3,15 @@ ghost use Rattle.std.specs.Prelude.{◌≡◌, ◌%◌};
 ghost use Rattle.field.specs.Ops.{is_field, modulus, ops};
 
 // Whether q is one of the four.
+#[tactic(auto, unfolding(crate::specs::Ops::is_field))]
 pub fn is_field(q: u8) -> bool
     ensures { result ≡ is_field q }
 {
-    match q {
-        2 => true,
-        7 => true,
-        31 => true,
-        251 => true,
-        _ => false,
-    }
+    matches!(q, 2 | 7 | 31 | 251)
 }
 
 // What results are reduced by: q, and 1 for a q that is no field's.
+#[tactic(auto, unfolding(crate::specs::Ops::modulus))]
 fn modulus_of(q: u8) -> u16
     ensures { result ≡ modulus q }
 {
@@ -24,6 +20,7 @@ fn modulus_of(q: u8) -> u16
 
 // The remainder of x by q, and 0 for a q that is no field's. Each division is by a constant. Sums and products of two bytes
 // fit 16 bits, in which a vector's are reduced eight at a time.
+#[tactic(auto, unfolding(crate::specs::Ops::is_field, crate::specs::Ops::modulus))]
 fn reduce(q: u8, x: u16) -> u8
     ensures { result ≡ x % modulus q }
 {
@@ -47,6 +44,7 @@ pub fn reduce_total(q: u8, total: u32) -> u8
     reduce(q, high as u16 * unit as u16 + low as u16)
 }
 
+#[tactic(auto, unfolding(crate::specs::Ops::ops))]
 pub fn add(q: u8, a: u8, b: u8) -> u8
     ensures { result ≡ (ops q).add a b }
 {
@@ -54,12 +52,14 @@ pub fn add(q: u8, a: u8, b: u8) -> u8
 }
 
 // a - b: the modulus is added before b's remainder is taken away, so that nothing falls below 0.
+#[tactic(auto, unfolding(crate::specs::Ops::ops))]
 pub fn sub(q: u8, a: u8, b: u8) -> u8
     ensures { result ≡ (ops q).sub a b }
 {
     reduce(q, a as u16 + (modulus_of(q) - reduce(q, b as u16) as u16))
 }
 
+#[tactic(auto, unfolding(crate::specs::Ops::ops))]
 pub fn mul(q: u8, a: u8, b: u8) -> u8
     ensures { result ≡ (ops q).mul a b }
 {

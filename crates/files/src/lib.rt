@@ -9,26 +9,13 @@ use std::io;
 use std::io::{Error, Read};
 use std::rt::{Env, Files};
 
-// How many bytes were read, or that the file was not, and standard error says why.
-#[derive(Clone, Copy)]
-pub enum Loaded {
-    Read(usize),
-    Nothing,
-}
-
-// How many bytes stand in the buffer, and what the read failed with that ended them.
-#[derive(Clone, Copy)]
-struct Filled {
-    length: usize,
-    error: Option<Error>,
-}
-
 // Reads standard input until the buffer is full, the input ends or a read fails, and answers how many bytes there are.
 pub fn read_input<R: Input>(rt: &R, buffer: &mut [u8]) -> usize
     ensures { result ≤ length buffer.new }
 {
     let mut reader = rt.reader();
-    fill(&mut reader, buffer).length
+    let (length, _) = fill(&mut reader, buffer);
+    length
 }
 
 // Prints the bytes. Where standard output takes no more, the rest is left out.
@@ -38,12 +25,7 @@ pub fn print<P: Print>(rt: &P, bytes: &[u8]) {
 
 // How many words the program was started with, its own name among them, but `most` if there are more.
 pub fn count_words<R: Env>(rt: &R, most: usize) -> usize {
-    for i in 0..most {
-        if !has_word(rt, i) {
-            return i;
-        }
-    }
-    most
+    (0..most).take_while(|i| has_word(rt, *i)).count()
 }
 
 // Is there an argument i, the program's name being the first?
@@ -52,15 +34,22 @@ pub fn has_word<R: Env>(rt: &R, i: usize) -> bool {
     !matches!(rt.arg(i, &mut nothing), Err(FillError::NotPresent))
 }
 
-// Reads the file that argument i names. It has to leave a byte of the buffer, or it is too large. `missing` is said where there is
-// no such argument, what is not ASCII in it escaped.
+// Reads the file that argument i names, and answers how many bytes it has, or None where standard error says why. It has to leave
+// a byte of the buffer, or it is too large. `missing` is said where there is no such argument, what is not ASCII in it escaped.
 pub fn load<R: Env + Files + Eprint>(
     rt: &R,
     i: usize,
     missing: &[u8],
     buffer: &mut [u8],
-) -> Loaded {
-    load_named(rt, i, missing, false, buffer)
+) -> Option<usize> {
+    let mut room = [0u8; 4096];
+    let path = path_named(rt, i, missing, &mut room)?;
+    let length = read_named(rt, path, buffer)?;
+    if length == buffer.len() {
+        let _ = eprintln!(rt; "{path}: larger than any well-formed file");
+        return None;
+    }
+    Some(length)
 }
 
 // The same, and of a file that is too large the front.
@@ -69,22 +58,10 @@ pub fn load_front<R: Env + Files + Eprint>(
     i: usize,
     missing: &[u8],
     buffer: &mut [u8],
-) -> Loaded {
-    load_named(rt, i, missing, true, buffer)
-}
-
-fn load_named<R: Env + Files + Eprint>(
-    rt: &R,
-    i: usize,
-    missing: &[u8],
-    front: bool,
-    buffer: &mut [u8],
-) -> Loaded {
-    let mut path = [0u8; 4096];
-    let Some(path) = path_named(rt, i, missing, &mut path) else {
-        return Loaded::Nothing;
-    };
-    read_file(rt, path, front, buffer)
+) -> Option<usize> {
+    let mut room = [0u8; 4096];
+    let path = path_named(rt, i, missing, &mut room)?;
+    read_named(rt, path, buffer)
 }
 
 // The path that argument i is. Where there is none, standard error has `missing` and why.
@@ -113,56 +90,36 @@ pub fn path_named<'a, R: Env + Eprint>(
     }
 }
 
-fn read_file<R: Files + Eprint>(rt: &R, path: &str, front: bool, buffer: &mut [u8]) -> Loaded {
-    match File::open(rt, path) {
-        Ok(file) => read_open(rt, file, path, front, buffer),
-        Err(error) => failed(rt, path, error),
+fn read_named<R: Files + Eprint>(rt: &R, path: &str, buffer: &mut [u8]) -> Option<usize> {
+    match read_file(rt, path, buffer) {
+        Ok(length) => Some(length),
+        Err(error) => {
+            let _ = eprintln!(rt; "{path}: {error}");
+            None
+        }
     }
 }
 
-// A read that ends before the buffer is full met the file's end, where there is no further byte, or failed.
-fn read_open<R: Eprint, F: Read + Drop>(
-    rt: &R,
-    file: F,
-    path: &str,
-    front: bool,
-    buffer: &mut [u8],
-) -> Loaded {
-    let mut file = file;
-    let filled = fill(&mut file, buffer);
-    if let Some(error) = filled.error {
-        return failed(rt, path, error);
-    }
-    if filled.length < buffer.len() || front {
-        return Loaded::Read(filled.length);
-    }
-    let _ = eprintln!(rt; "{path}: larger than any well-formed file");
-    Loaded::Nothing
+// A read that ends before the buffer is full met the file's end, where there is no further byte.
+fn read_file<R: Files>(rt: &R, path: &str, buffer: &mut [u8]) -> Result<usize, Error> {
+    let mut file = File::open(rt, path)?;
+    let (length, end) = fill(&mut file, buffer);
+    end?;
+    Ok(length)
 }
 
-fn failed<R: Eprint>(rt: &R, path: &str, error: Error) -> Loaded {
-    let _ = eprintln!(rt; "{path}: {error}");
-    Loaded::Nothing
-}
-
-fn fill<R: Read>(reader: &mut R, buffer: &mut [u8]) -> Filled
-    ensures { result.length ≤ length buffer.new }
+// How many bytes stand in the buffer once it is full, the input has ended or a read has failed, and what that failed with. Each
+// read gives as many bytes as it likes, so that nothing counts them one by one.
+fn fill<R: Read>(reader: &mut R, buffer: &mut [u8]) -> (usize, Result<(), Error>)
+    ensures { result.0 ≤ length buffer.new }
 {
     let mut done = 0;
     while done < buffer.len() {
         match reader.read(&mut buffer[done..]) {
             Ok(0) => break,
             Ok(n) => done += n,
-            Err(error) => {
-                return Filled {
-                    length: done,
-                    error: Some(error),
-                };
-            }
+            Err(error) => return (done, Err(error)),
         }
     }
-    Filled {
-        length: done,
-        error: None,
-    }
+    (done, Ok(()))
 }

@@ -9,11 +9,15 @@ ghost use Rattle.hex_text.specs.Hex.{hex_digit, hex_byte, hex};
 use text::append;
 
 // The ASCII code of a hexadecimal digit.
+#[tactic(auto, unfolding(crate::specs::Hex::hex_digit))]
 fn hex_digit(k: u8) -> u8
     requires { k < 16 }
     ensures { result ≡ hex_digit k }
 {
-    if k < 10 { 48 + k } else { 87 + k }
+    match k {
+        0..=9 => b'0' + k,
+        _ => b'a' + (k - 10),
+    }
 }
 
 // Puts a byte's two digits.
@@ -33,10 +37,8 @@ pub fn append_hex(text: &mut [u8], at: usize, s: &[u8]) -> usize
         × (result ≡ at + 2 * length s.now) }
 {
     let mut next = at;
-    let mut i = 0;
-    while i < s.len() {
-        next = append_byte(text, next, s[i]);
-        i += 1;
+    for &byte in s {
+        next = append_byte(text, next, byte);
     }
     next
 }

@@ -1,9 +1,9 @@
 // A label as the ICCID that stands on the card: its digits put into a lent text, and the label of such digits.
 #![tactic(auto)]
 
-ghost use Rattle.std.specs.Prelude.{◌≡◌, cond, ◌++◌, ◌+◌, ◌*◌, ◌/◌, ◌%◌, ◌≤◌, ◌<◌, length};
+ghost use Rattle.std.specs.Prelude.{◌≡◌, unwrap_or, [], ◌++◌, ◌+◌, ◌*◌, ◌/◌, ◌%◌, ◌≤◌, ◌<◌, length};
 ghost use Rattle.slices.specs.Slices.{tabulate, placed};
-ghost use Rattle.iccid.specs.Iccid.{half_digit, label_digits, half_of, character_at, byte_from, has_label};
+ghost use Rattle.iccid.specs.Iccid.{half_digit, label_digits, half_of, character_at, byte_from, label_from};
 
 use text::append;
 
@@ -12,7 +12,7 @@ fn append_half(text: &mut [u8], at: usize, half: u8) -> usize
     requires { (half < 16) × (at + 1 ≤ length text.old) }
     ensures { (text.new ≡ placed text.old «at» (half_digit half)) × (result ≡ at + length (half_digit half)) × (result ≤ at + 1) }
 {
-    if half == 15 {
+    if half == 0xF {
         return at;
     }
     append(text, at, &[b'0' + half])
@@ -35,10 +35,8 @@ pub fn append_label(text: &mut [u8], at: usize, label: &[u8]) -> usize
         × (result ≡ at + length (label_digits label.now)) × (result ≤ at + 2 * length label.now) }
 {
     let mut next = at;
-    let mut i = 0;
-    while i < label.len() {
-        next = append_halves(text, next, label[i]);
-        i += 1;
+    for &byte in label {
+        next = append_halves(text, next, byte);
     }
     next
 }
@@ -48,23 +46,19 @@ pub fn append_label(text: &mut [u8], at: usize, label: &[u8]) -> usize
 fn half_of(character: u8) -> u8
     ensures { (result ≡ half_of character) × (result < 16) }
 {
-    if character == b'F' {
-        return 15;
+    match character {
+        b'F' => 0xF,
+        b'0'..=b'9' => character - b'0',
+        _ => 10,
     }
-    if character < b'0' {
-        return 10;
-    }
-    if b'9' < character {
-        return 10;
-    }
-    character - b'0'
 }
 
 // The character at place i, `F` behind the last.
+#[tactic(auto, unfolding(crate::specs::Iccid::character_at))]
 fn character_at(iccid: &[u8], i: usize) -> u8
     ensures { result ≡ character_at iccid.now i }
 {
-    if i < iccid.len() { iccid[i] } else { b'F' }
+    iccid.get(i).copied().unwrap_or(b'F')
 }
 
 // Byte i of the label that the characters stand for.
@@ -77,33 +71,24 @@ fn byte_from(iccid: &[u8], i: usize) -> u8
     low + 16 * high
 }
 
-// The ten bytes of a label from its characters.
-pub fn bytes_from(iccid: &[u8]) -> [u8; 10]
+// The ten bytes that the characters stand for.
+fn bytes_from(iccid: &[u8]) -> [u8; 10]
     ensures { result ≡ tabulate 10 (byte_from iccid.now) }
 {
-    [
-        byte_from(iccid, 0),
-        byte_from(iccid, 1),
-        byte_from(iccid, 2),
-        byte_from(iccid, 3),
-        byte_from(iccid, 4),
-        byte_from(iccid, 5),
-        byte_from(iccid, 6),
-        byte_from(iccid, 7),
-        byte_from(iccid, 8),
-        byte_from(iccid, 9),
-    ]
+    let mut bytes = [0; 10];
+    for i in 0..10 {
+        bytes[i] = byte_from(iccid, i);
+    }
+    bytes
 }
 
-// How many bytes the label has: ten where there are twenty characters or nineteen, else none.
-pub fn label_length(iccid: &[u8]) -> usize
-    ensures { result ≡ cond (has_label iccid.now) 10 0 }
+// The label of an ICCID; none where it has not twenty characters or nineteen.
+#[tactic(auto, unfolding(crate::specs::Iccid::label_from, crate::specs::Iccid::has_label))]
+pub fn label_of(iccid: &[u8]) -> Option<[u8; 10]>
+    ensures { unwrap_or result [] ≡ label_from iccid.now }
 {
-    if iccid.len() == 20 {
-        return 10;
+    match iccid.len() {
+        19 | 20 => Some(bytes_from(iccid)),
+        _ => None,
     }
-    if iccid.len() == 19 {
-        return 10;
-    }
-    0
 }

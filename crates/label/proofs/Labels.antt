@@ -8,8 +8,7 @@ use native.Mathlib.Nat.{not-suc-le-zero, eq-or-lt_of_le, le_of_suc-le-suc, le_re
 use native.Mathlib.Decide.{dec_lt, ℕ_discrete}
 use native.Mathlib.Omega.{arith}
 use lib.Dec.{leb, ltb, eqb}
-use lib.ListN.{length, drop, drop_of_length-le}
-use lib.Seq.{drop-cons}
+use lib.ListN.{length}
 use borrow.Author.Tests.{eqb-true, eq-eqb, ne_eqb, leb-true, le-leb, lt-ltb, le-ltb, ltb-true}
 use Rattle.slices.specs.Slices.{◌!◌}
 use Rattle.slices.proofs.Booleans.{and_left, and_right, and_both}
@@ -157,10 +156,6 @@ is_below_lem a b ten_a ten_b w =
 
 -- ---- a loop that compares two labels byte by byte
 
--- the answer by the bytes from i on
-unfoldable pub from_byte : List ℕ → List ℕ → ℕ → Bool
-from_byte a b i = rises (halves (drop i a)) (halves (drop i b))
-
 -- two bytes that are the same say nothing
 rises_same : (x y : ℕ) (a b : List ℕ) → x ≡ y → rises (halves (x ∷ a)) (halves (y ∷ b)) ≡ rises (halves a) (halves b)
 unfolding halves rises
@@ -200,50 +195,19 @@ byte_equal x y p q (ex, hp) (ey, hq) same =
     let high : p / 16 ≡ q / 16 = omega (arith, low, same, ex, ey) in
     omega (arith, low, high)
 
-pub from_start : (a b : List ℕ) → rises (halves a) (halves b) ≡ from_byte a b 0
-unfolding from_byte
-from_start a b = refl
+pub first_same : (x y : ℕ) (ls ms xs ys : List ℕ) → ls ≡ x ∷ xs → ms ≡ y ∷ ys → x ≡ y → rises (halves ls) (halves ms) ≡ rises (halves xs) (halves ys)
+first_same x y ls ms xs ys ea eb same = ap₂ (λ (s t : List ℕ). rises (halves s) (halves t)) ea eb ∙ rises_same x y xs ys same
 
-opened : (a b : List ℕ) (i : ℕ) → i < length a → i < length b → from_byte a b i ≡ rises (halves (a ! i ∷ drop (suc i) a)) (halves (b ! i ∷ drop (suc i) b))
-unfolding from_byte
-opened a b i ha hb = ap₂ (λ (s t : List ℕ). rises (halves s) (halves t)) (drop-cons a i 0 ha) (drop-cons b i 0 hb)
+pub first_decides : (x y u v : ℕ) (ls ms xs ys : List ℕ) → ls ≡ x ∷ xs → ms ≡ y ∷ ys → Ordered u x → Ordered v y → (x ≡ y → ⊥) → ltb u v ≡ rises (halves ls) (halves ms)
+first_decides x y u v ls ms xs ys ea eb ox oy differ =
+    ap₂ ltb ox.0 oy.0 ∙ rises_differ x y xs ys ox.1 oy.1 (λ same. differ (byte_equal u v x y ox oy (ox.0 ∙ same ∙ sym oy.0))) ∙
+    sym (ap₂ (λ (s t : List ℕ). rises (halves s) (halves t)) ea eb)
 
-pub from_step : (a b : List ℕ) (i next x y : ℕ) (t : Bool) → t ≡ from_byte a b i → i < length a → i < length b → Ordered x (a ! i) → Ordered y (b ! i) → x ≡ y → next ≡ i + 1 →
-    t ≡ from_byte a b next
-unfolding from_byte
-from_step a b i next x y t e ha hb ox oy same later =
-    let after : suc i ≡ next = omega (arith, later) in
-    e ∙ opened a b i ha hb ∙ rises_same (a ! i) (b ! i) (drop (suc i) a) (drop (suc i) b) (byte_equal x y (a ! i) (b ! i) ox oy same) ∙ ap (from_byte a b) after
+pub none_left : (ls ms : List ℕ) → ls ≡ [] → false ≡ rises (halves ls) (halves ms)
+unfolding rises halves
+none_left ls ms e = sym (ap (λ (s : List ℕ). rises (halves s) (halves ms)) e)
 
-pub from_here : (a b : List ℕ) (i x y : ℕ) (t : Bool) → t ≡ from_byte a b i → i < length a → i < length b → Ordered x (a ! i) → Ordered y (b ! i) → (x ≡ y → ⊥) → ltb x y ≡ t
-from_here a b i x y t e ha hb ox oy differ =
-    ap₂ ltb ox.0 oy.0 ∙
-    rises_differ (a ! i) (b ! i) (drop (suc i) a) (drop (suc i) b) ox.1 oy.1 (λ same. differ (ox.0 ∙ same ∙ sym oy.0)) ∙
-    sym (opened a b i ha hb) ∙ sym e
-
-pub from_end : (a b : List ℕ) (i : ℕ) (t : Bool) → t ≡ from_byte a b i → length a ≤ i → false ≡ t
-unfolding from_byte rises halves
-from_end a b i t e beyond = sym (e ∙ ap (λ (s : List ℕ). rises (halves s) (halves (drop i b))) (drop_of_length-le a beyond))
-
--- labels of ten bytes, and others
+-- labels of ten bytes
 pub ten_below : (a b : List ℕ) → length a ≡ 10 → length b ≡ 10 → rises (halves a) (halves b) ≡ is_below a b
 unfolding is_below
 ten_below a b ten_a ten_b = sym (simp (eq-eqb (length a) 10 ten_a, eq-eqb (length b) 10 ten_b))
-
-pub first_not_ten : (a b : List ℕ) → (length a ≡ 10 → ⊥) → false ≡ is_below a b
-unfolding is_below
-first_not_ten a b not_ten = sym (simp (ne_eqb (length a) 10 not_ten))
-
-pub second_not_ten : (a b : List ℕ) → length a ≡ 10 → (length b ≡ 10 → ⊥) → false ≡ is_below a b
-unfolding is_below
-second_not_ten a b ten_a not_ten = sym (simp (eq-eqb (length a) 10 ten_a, ne_eqb (length b) 10 not_ten))
-
--- ---- a loop that looks at the bytes of a label
-
-pub not_ten : (l : List ℕ) → (length l ≡ 10 → ⊥) → false ≡ is_label l
-unfolding is_label
-not_ten l differs = sym (simp (ne_eqb (length l) 10 differs))
-
-pub last_decides : (l : List ℕ) → length l ≡ 10 → all_of 9 (λ k. are_digits (l ! k)) ≡ true → are_last (l ! 9) ≡ is_label l
-unfolding is_label
-last_decides l ten nine = sym (simp (eq-eqb (length l) 10 ten, nine))

@@ -6,29 +6,20 @@ mod write;
 
 use crate::read::read_case;
 use crate::write::write_case;
-use cases::Outcome;
+use cases::{Case, Kind};
 
-// The kinds of the calls.
-const READ: u8 = 9;
-
-const WRITE: u8 = 10;
-
-// Runs the case at `at`, whose pieces the buffers have room for. A case of another kind is malformed. The reader's record is
-// expanded into the buffer for the writer's.
+// Runs a case, whose pieces the buffers have room for, and answers whether it agrees. A case of another kind is malformed. The
+// reader's record is expanded into the buffer for the writer's.
 pub fn record_case(
-    file: &[u8],
-    at: usize,
+    case: Case,
     commitments: &mut [u8],
     exchanges: &mut [u8],
     expected: &mut [u8],
     out: &mut [u8],
-) -> Outcome {
-    let head = cases::head_at(file, at);
-    if head.kind == READ {
-        read_case(file, head, expected)
-    } else if head.kind == WRITE {
-        write_case(file, head, commitments, exchanges, expected, out)
-    } else {
-        cases::malformed()
+) -> Option<bool> {
+    match case.kind {
+        Kind::ReadRecord => read_case(case, expected),
+        Kind::WriteRecord => write_case(case, commitments, exchanges, expected, out),
+        _ => None,
     }
 }

@@ -1,58 +1,42 @@
 // Cases of the reader: its answer as 30 bytes, the header, then offset and length of each body.
-use cases::{Head, Outcome, Small};
+use cases::Case;
 use record::Reading;
 use record_form::{Body, Layout};
 use scheme::byte_of;
-use slices::{equal, part, word};
+use slices::{put, word};
 
-// How many bytes an answer has, and how many of them a body's entry.
-const ANSWER: usize = 30;
-
-const ENTRY: usize = 8;
-
-pub fn read_case(file: &[u8], head: Head, buffer: &mut [u8]) -> Outcome {
-    let piece = cases::load(file, head.next, buffer);
-    let expected = cases::load_small(file, piece.next);
-    let reading = record::read(part(buffer, 0, piece.length));
-    let agrees = match reading {
-        Reading::Good(layout) => head.number == 0 && is_layout(layout, expected),
-        Reading::Refused(number) => head.number == number && is_filled(head.fill, expected),
+pub fn read_case(mut case: Case, buffer: &mut [u8]) -> Option<bool> {
+    let bytes = case.pieces.load(buffer)?;
+    let expected = case.pieces.small()?;
+    let (number, answer) = match record::read(bytes) {
+        Reading::Good(layout) => (0, layout_bytes(layout)),
+        Reading::Refused(number) => (number, [case.fill; 30]),
     };
-    Outcome {
-        next: expected.next,
-        agrees,
-    }
+    Some(number == case.number && expected.as_slice() == answer.as_slice())
 }
 
-// Is the answer expected the one left as it was?
-fn is_filled(fill: u8, expected: Small) -> bool {
-    let bytes = expected.bytes;
-    equal(&[fill; 30], part(&bytes, 0, expected.length))
-}
-
-// Is the answer expected that of a layout?
-fn is_layout(layout: Layout, expected: Small) -> bool {
+fn layout_bytes(layout: Layout) -> [u8; 30] {
     let header = layout.header;
-    let scheme = header.scheme;
-    let bytes = expected.bytes;
     let numbers = [
         layout.edition,
-        byte_of(scheme),
+        byte_of(header.scheme),
         header.q,
         header.n,
         header.m,
         header.rounds,
     ];
-    expected.length == ANSWER
-        && equal(&numbers, part(&bytes, 0, 6))
-        && is_entry(layout.key, part(&bytes, 6, ENTRY))
-        && is_entry(layout.commitments, part(&bytes, 14, ENTRY))
-        && is_entry(layout.exchanges, part(&bytes, 22, ENTRY))
+    let mut bytes = [0; 30];
+    put(&mut bytes, 0, &numbers);
+    put(&mut bytes, 6, &entry(layout.key));
+    put(&mut bytes, 14, &entry(layout.commitments));
+    put(&mut bytes, 22, &entry(layout.exchanges));
+    bytes
 }
 
-// Are the bytes a body's offset and length?
-fn is_entry(body: Body, bytes: &[u8]) -> bool {
-    let offset = word(body.offset);
-    let length = word(body.length);
-    equal(&offset, part(bytes, 0, 4)) && equal(&length, part(bytes, 4, ENTRY))
+// A body's offset and length.
+fn entry(body: Body) -> [u8; 8] {
+    let mut bytes = [0; 8];
+    put(&mut bytes, 0, &word(body.offset));
+    put(&mut bytes, 4, &word(body.length));
+    bytes
 }

@@ -5,7 +5,7 @@ ghost use Rattle.system.specs.System.{system_refusal};
 use crate::compare::{
     same_five_commitments, same_middle, same_reply_five, same_reply_three, same_three_commitments,
 };
-use cases::{Outcome, Small};
+use cases::{Case, Small};
 use commitment::Domain;
 use exchange::{Lent, read_lent};
 use field::from_slice;
@@ -16,22 +16,19 @@ use round::{
 use scheme::{Scheme, is_scheme, scheme_of};
 use slices::byte_at;
 
-pub fn commit_case<'a>(file: &'a [u8], number: u8, at: usize, system: &'a [u8]) -> Outcome
+pub fn commit_case(mut case: Case, system: &[u8]) -> Option<bool>
     requires { system_refusal system.now ≡ 0 }
 {
-    let scheme = cases::load_byte(file, at);
-    let s = cases::load_small(file, scheme.next);
-    let lent = cases::load_small(file, s.next);
-    let expected = cases::load_small(file, lent.next);
-    let same = commits(system, scheme_of(scheme.value), s, lent, expected);
-    Outcome {
-        next: expected.next,
-        agrees: is_scheme(scheme.value) && number == 0 && same,
-    }
+    let scheme = case.pieces.byte()?;
+    let s = case.pieces.small()?;
+    let lent = case.pieces.small()?;
+    let expected = case.pieces.small()?;
+    let same = commits(system, scheme_of(scheme), &s, &lent, &expected);
+    Some(is_scheme(scheme) && case.number == 0 && same)
 }
 
 // Whether the card's commitments are those expected.
-fn commits(system: &[u8], scheme: Scheme, s: Small, lent: Small, expected: Small) -> bool
+fn commits(system: &[u8], scheme: Scheme, s: &Small, lent: &Small, expected: &Small) -> bool
     requires { system_refusal system.now ≡ 0 }
 {
     let secret = vector_of(s);
@@ -52,86 +49,66 @@ fn commits_three(d: Domain, system: &[u8], s: [u8; 96], lent: Lent) -> Commitmen
 {
     let n = byte_at(system, 1);
     let m = byte_at(system, 2);
-    let rhos = lent.rhos;
-    commitments_three(d, n, m, vectors_three(system, s, lent), rhos)
+    commitments_three(d, n, m, vectors_three(system, s, lent), lent.rhos)
 }
 
 fn commits_five(d: Domain, system: &[u8], s: [u8; 96], lent: Lent) -> CommitmentsFive
     requires { system_refusal system.now ≡ 0 }
 {
-    let r0 = lent.r0;
-    let t0 = lent.t0;
-    let e0 = lent.e0;
-    let rhos = lent.rhos;
-    commitments_five(d, system, s, r0, t0, e0, rhos)
+    commitments_five(d, system, s, lent.r0, lent.t0, lent.e0, lent.rhos)
 }
 
 // The card's vectors in three passes.
 fn vectors_three(system: &[u8], s: [u8; 96], lent: Lent) -> Vectors
     requires { system_refusal system.now ≡ 0 }
 {
-    let r0 = lent.r0;
-    let t0 = lent.t0;
-    let e0 = lent.e0;
-    card_three(system, s, r0, t0, e0)
+    card_three(system, s, lent.r0, lent.t0, lent.e0)
 }
 
-pub fn answer_case<'a>(file: &'a [u8], number: u8, at: usize, system: &'a [u8]) -> Outcome
+pub fn answer_case(mut case: Case, system: &[u8]) -> Option<bool>
     requires { system_refusal system.now ≡ 0 }
 {
-    let alpha = cases::load_byte(file, at);
-    let lent = cases::load_small(file, alpha.next);
-    let expected = cases::load_small(file, lent.next);
-    let same = answers(system, alpha.value, lent, expected);
-    Outcome {
-        next: expected.next,
-        agrees: number == 0 && same,
-    }
+    let alpha = case.pieces.byte()?;
+    let lent = case.pieces.small()?;
+    let expected = case.pieces.small()?;
+    Some(case.number == 0 && answers(system, alpha, &lent, &expected))
 }
 
 // Whether the card's t1 and e1 are those expected.
-fn answers(system: &[u8], alpha: u8, lent: Small, expected: Small) -> bool
+fn answers(system: &[u8], alpha: u8, lent: &Small, expected: &Small) -> bool
     requires { system_refusal system.now ≡ 0 }
 {
     let n = byte_at(system, 1);
     let m = byte_at(system, 2);
     let held = lent_of(system, lent);
-    let r0 = held.r0;
-    let t0 = held.t0;
-    let e0 = held.e0;
-    same_middle(middle(system, alpha, r0, t0, e0), expected, n, m)
+    same_middle(
+        middle(system, alpha, held.r0, held.t0, held.e0),
+        expected,
+        n,
+        m,
+    )
 }
 
-pub fn reply_case<'a>(file: &'a [u8], number: u8, at: usize, system: &'a [u8]) -> Outcome
+pub fn reply_case(mut case: Case, system: &[u8]) -> Option<bool>
     requires { system_refusal system.now ≡ 0 }
 {
-    let scheme = cases::load_byte(file, at);
-    let s = cases::load_small(file, scheme.next);
-    let lent = cases::load_small(file, s.next);
-    let challenge = cases::load_byte(file, lent.next);
-    let expected = cases::load_small(file, challenge.next);
-    let same = replies(
-        system,
-        scheme_of(scheme.value),
-        s,
-        lent,
-        challenge.value,
-        expected,
-    );
-    Outcome {
-        next: expected.next,
-        agrees: is_scheme(scheme.value) && number == 0 && same,
-    }
+    let scheme = case.pieces.byte()?;
+    let s = case.pieces.small()?;
+    let lent = case.pieces.small()?;
+    let challenge = case.pieces.byte()?;
+    let expected = case.pieces.small()?;
+    let same = replies(system, scheme_of(scheme), &s, &lent, challenge, &expected);
+    Some(is_scheme(scheme) && case.number == 0 && same)
 }
 
 // Whether the card's reply is the one expected.
 fn replies(
     system: &[u8],
     scheme: Scheme,
-    s: Small,
-    lent: Small,
+    s: &Small,
+    lent: &Small,
     challenge: u8,
-    expected: Small,
+    expected: &Small,
 ) -> bool
     requires { system_refusal system.now ≡ 0 }
 {
@@ -140,15 +117,13 @@ fn replies(
     let m = byte_at(system, 2);
     let secret = vector_of(s);
     let held = lent_of(system, lent);
-    let r0 = held.r0;
-    let rhos = held.rhos;
     match scheme {
         Scheme::ThreePass => {
             let w = vectors_three(system, secret, held);
-            same_reply_three(reply_three(w, rhos, challenge), expected, n, m)
+            same_reply_three(reply_three(w, held.rhos, challenge), expected, n, m)
         }
         Scheme::FivePass => {
-            let made = reply_five(q, n, secret, r0, rhos, challenge);
+            let made = reply_five(q, n, secret, held.r0, held.rhos, challenge);
             same_reply_five(made, expected, n, m)
         }
     }
@@ -156,17 +131,15 @@ fn replies(
 
 // What stands before ρ in the strings of a case.
 pub fn domain_of(scheme: Scheme) -> Domain {
-    Domain { scheme: scheme }
+    Domain { scheme }
 }
 
 // What is lent for a round, from its piece.
-fn lent_of(system: &[u8], piece: Small) -> Lent {
-    let bytes = piece.bytes;
-    read_lent(&bytes, byte_at(system, 1), byte_at(system, 2))
+fn lent_of(system: &[u8], piece: &Small) -> Lent {
+    read_lent(&piece.bytes, byte_at(system, 1), byte_at(system, 2))
 }
 
 // The vector of a piece.
-pub fn vector_of(piece: Small) -> [u8; 96] {
-    let bytes = piece.bytes;
-    from_slice(&bytes)
+pub fn vector_of(piece: &Small) -> [u8; 96] {
+    from_slice(&piece.bytes)
 }

@@ -3,56 +3,27 @@ ghost use Rattle.std.specs.Prelude.{◌≡◌};
 ghost use Rattle.system.specs.System.{system_refusal};
 
 use crate::card::{domain_of, vector_of};
-use cases::{Outcome, Small};
-use scheme::{Scheme, is_scheme, scheme_of};
+use cases::Case;
+use scheme::{is_scheme, scheme_of};
 
 // Its answer is 1 for accept and 0 for reject.
-pub fn judge_case<'a>(file: &'a [u8], number: u8, at: usize, system: &'a [u8]) -> Outcome
+pub fn judge_case(mut case: Case, system: &[u8]) -> Option<bool>
     requires { system_refusal system.now ≡ 0 }
 {
-    let scheme = cases::load_byte(file, at);
-    let v = cases::load_small(file, scheme.next);
-    let commitments = cases::load_small(file, v.next);
-    let turn = cases::load_small(file, commitments.next);
-    let challenge = cases::load_byte(file, turn.next);
-    let reply = cases::load_small(file, challenge.next);
-    let accepted = accepts(
+    let scheme = case.pieces.byte()?;
+    let v = case.pieces.small()?;
+    let commitments = case.pieces.small()?;
+    let turn = case.pieces.small()?;
+    let challenge = case.pieces.byte()?;
+    let reply = case.pieces.small()?;
+    let accepted = exchange::judge(
         system,
-        scheme_of(scheme.value),
-        v,
-        commitments,
-        turn,
-        challenge.value,
-        reply,
-    );
-    let answer = if accepted { 1 } else { 0 };
-    Outcome {
-        next: reply.next,
-        agrees: is_scheme(scheme.value) && answer == number,
-    }
-}
-
-fn accepts(
-    system: &[u8],
-    scheme: Scheme,
-    v: Small,
-    commitments: Small,
-    turn: Small,
-    challenge: u8,
-    reply: Small,
-) -> bool
-    requires { system_refusal system.now ≡ 0 }
-{
-    let sent = commitments.bytes;
-    let between = turn.bytes;
-    let last = reply.bytes;
-    exchange::judge(
-        system,
-        domain_of(scheme),
-        vector_of(v),
-        &sent,
-        &between,
+        domain_of(scheme_of(scheme)),
+        vector_of(&v),
+        &commitments.bytes,
+        &turn.bytes,
         challenge,
-        &last,
-    )
+        &reply.bytes,
+    );
+    Some(is_scheme(scheme) && u8::from(accepted) == case.number)
 }

@@ -10,47 +10,28 @@ ghost use Rattle.system.specs.System.{system_refusal};
 
 use crate::card::{answer_case, commit_case, reply_case};
 use crate::judge::judge_case;
-use cases::{Head, Outcome};
-use slices::part;
+use cases::{Case, Kind};
 
-// The kinds of the calls.
-const COMMIT: u8 = 4;
-
-const ANSWER: u8 = 5;
-
-const REPLY: u8 = 6;
-
-const JUDGE: u8 = 7;
-
-// Runs the case at `at`, whose system the buffer has room for. A case of another kind is malformed, and so is one whose
-// system is not well-formed.
-pub fn round_case(file: &[u8], at: usize, buffer: &mut [u8]) -> Outcome {
-    let head = cases::head_at(file, at);
-    let system = cases::load(file, head.next, buffer);
-    checked_case(file, head, system.next, part(buffer, 0, system.length))
-}
-
-fn checked_case<'a>(file: &'a [u8], head: Head, at: usize, system: &'a [u8]) -> Outcome {
+// Runs a case, whose system the buffer has room for, and answers whether it agrees. A case of another kind is malformed, and so
+// is one whose system is not well-formed.
+pub fn round_case(mut case: Case, buffer: &mut [u8]) -> Option<bool> {
+    let system = case.pieces.load(buffer)?;
     if system::check(system) == 0 {
-        call_case(file, head, at, system)
+        call_case(case, system)
     } else {
-        cases::malformed()
+        None
     }
 }
 
-// The case of a kind, whose pieces behind the system start at `at`.
-fn call_case<'a>(file: &'a [u8], head: Head, at: usize, system: &'a [u8]) -> Outcome
+// The case's pieces are those behind the system, here and below.
+fn call_case(case: Case, system: &[u8]) -> Option<bool>
     requires { system_refusal system.now ≡ 0 }
 {
-    if head.kind == COMMIT {
-        commit_case(file, head.number, at, system)
-    } else if head.kind == ANSWER {
-        answer_case(file, head.number, at, system)
-    } else if head.kind == REPLY {
-        reply_case(file, head.number, at, system)
-    } else if head.kind == JUDGE {
-        judge_case(file, head.number, at, system)
-    } else {
-        cases::malformed()
+    match case.kind {
+        Kind::Commit => commit_case(case, system),
+        Kind::Answer => answer_case(case, system),
+        Kind::Reply => reply_case(case, system),
+        Kind::Judge => judge_case(case, system),
+        _ => None,
     }
 }

@@ -15,10 +15,8 @@ fn parity<'a>(a: &'a [u8], b: &'a [u8]) -> u8
     ensures { result ≡ products a.now b.now (length a.now) % 2 }
 {
     let mut bits: u8 = 0;
-    let mut i = 0;
-    while i < a.len() {
-        bits = bits ^ (a[i] & b[i]);
-        i += 1;
+    for i in 0..a.len() {
+        bits ^= a[i] & b[i];
     }
     bits % 2
 }

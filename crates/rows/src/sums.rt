@@ -6,21 +6,13 @@
 ghost use Rattle.std.specs.Prelude.{◌≡◌, ◌+◌, ◌*◌, ◌^◌, ◌≤◌, ◌<◌, length, sum};
 ghost use Rattle.field.specs.Row.{products};
 
-fn wide(x: u8) -> u32
-    ensures { (result ≡ x) × (result ≤ 255) }
-{
-    x as u32
-}
-
 // Adds the products of sixteen pairs to sixteen sums, one to each.
 fn add_products<'a>(sums: &mut [u32], a: &'a [u8], b: &'a [u8])
     requires { (length sums.old ≡ 16) × (length a.now ≡ 16) × (length b.now ≡ 16) × (sum sums.old + 65025 * 16 < 2 ^ 32) }
     ensures { (sum sums.new ≡ sum sums.old + products a.now b.now (length a.now)) × (sum sums.new ≤ sum sums.old + 65025 * 16) }
 {
-    let mut k = 0;
-    while k < 16 {
-        sums[k] += wide(a[k]) * wide(b[k]);
-        k += 1;
+    for k in 0..16 {
+        sums[k] += u32::from(a[k]) * u32::from(b[k]);
     }
 }
 
@@ -29,13 +21,7 @@ fn total(sums: [u32; 16]) -> u32
     requires { sum sums < 2 ^ 32 }
     ensures { result ≡ sum sums }
 {
-    let mut whole: u32 = 0;
-    let mut lane = 0;
-    while lane < 16 {
-        whole += sums[lane];
-        lane += 1;
-    }
-    whole
+    sums.iter().sum()
 }
 
 // Adds the products of the pairs that are left to the sum of the others.
@@ -44,10 +30,8 @@ fn add_rest<'a>(others: u32, a: &'a [u8], b: &'a [u8]) -> u32
     ensures { result ≡ others + products a.now b.now (length a.now) }
 {
     let mut whole = others;
-    let mut i = 0;
-    while i < a.len() {
-        whole += wide(a[i]) * wide(b[i]);
-        i += 1;
+    for i in 0..a.len() {
+        whole += u32::from(a[i]) * u32::from(b[i]);
     }
     whole
 }
@@ -58,12 +42,12 @@ pub fn sum_of_products<'a>(a: &'a [u8], b: &'a [u8]) -> u32
     ensures { result ≡ products a.now b.now (length a.now) }
 {
     let mut sums = [0u32; 16];
-    let mut at = 0;
-    while 16 <= a.len() - at {
-        let end = at + 16;
-        add_products(&mut sums, &a[at..end], &b[at..end]);
-        at = end;
+    let blocks = a.len() / 16;
+    for block in 0..blocks {
+        let at = 16 * block;
+        add_products(&mut sums, &a[at..at + 16], &b[at..at + 16]);
     }
+    let at = 16 * blocks;
     let end = a.len();
     add_rest(total(sums), &a[at..end], &b[at..end])
 }

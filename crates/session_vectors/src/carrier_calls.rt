@@ -1,144 +1,88 @@
 // The carrier's calls: each prints its word and its number, that of a reply also accept or reject.
-use crate::line::{say, say_answer};
 use carrier::{set_alpha, set_challenge, take_commitments, take_middle};
-use carrier_state::{Carrier, CarrierAnswer, Judged};
-use cases::{Byte, Head, Outcome};
-use slices::{byte_at, part};
+use carrier_state::{Carrier, CarrierAnswer};
+use cases::{Case, Kind};
 
-// How a call went, and the session after it.
-#[derive(Clone, Copy)]
-pub struct CarrierStep {
-    pub outcome: Outcome,
-    pub carrier: Carrier,
-}
-
-// The call whose pieces, behind a system if it has one, start at `at`.
-pub fn carrier_call<'a, R: Print>(
+// Makes the call, whose system, if it has one, the buffer has room for, and answers whether it agrees. A case of another kind is
+// malformed; that leaves the session.
+pub fn carrier_call<R: Print>(
     rt: &R,
-    file: &'a [u8],
-    head: Head,
-    at: usize,
-    system: &'a [u8],
-    carrier: Carrier,
-) -> CarrierStep {
-    let kind = head.kind;
-    match kind {
-        16 => open_call(rt, file, head, at, system, carrier),
-        21 => judge_call(rt, file, head, at, system, carrier),
-        _ => message_call(rt, file, head, at, carrier),
+    case: Case,
+    buffer: &mut [u8],
+    carrier: &mut Carrier,
+) -> Option<bool> {
+    match case.kind {
+        Kind::CarrierOpen => open_call(rt, case, buffer, carrier),
+        Kind::CarrierJudge => judge_call(rt, case, buffer, carrier),
+        Kind::CarrierTake | Kind::CarrierAlpha | Kind::CarrierMiddle | Kind::CarrierAsk =>
+            message_call(rt, case, carrier),
+        _ => None,
     }
 }
 
-// A malformed case leaves the session.
-fn no_call(carrier: Carrier) -> CarrierStep {
-    CarrierStep {
-        outcome: cases::malformed(),
-        carrier,
-    }
-}
-
-// The line's start, and the step after an answer.
+// The start of the line of an answer, which is left in the session.
 fn said<R: Print>(
     rt: &R,
-    word: &[u8],
-    next: usize,
-    number: u8,
+    word: &str,
+    case: Case,
     answer: CarrierAnswer,
-) -> CarrierStep {
-    say_answer(rt, word, answer.refusal);
-    let carrier = answer.carrier;
-    let outcome = Outcome {
-        next,
-        agrees: answer.refusal == number,
+    carrier: &mut Carrier,
+) -> bool {
+    let number = answer.refusal;
+    *carrier = answer.carrier;
+    let _ = print!(rt; "{word} {number}");
+    number == case.number
+}
+
+fn open_call<R: Print>(
+    rt: &R,
+    mut case: Case,
+    buffer: &mut [u8],
+    carrier: &mut Carrier,
+) -> Option<bool> {
+    let system = case.pieces.load(buffer)?;
+    let scheme = case.pieces.byte()?;
+    let rounds = case.pieces.byte()?;
+    let v = case.pieces.small()?;
+    let answer = carrier::open(system, scheme, rounds, v.as_slice());
+    Some(said(rt, "carrier", case, answer, carrier))
+}
+
+// The calls with one message; its first byte is α or the challenge.
+fn message_call<R: Print>(rt: &R, mut case: Case, carrier: &mut Carrier) -> Option<bool> {
+    let message = case.pieces.small()?;
+    let byte = message.bytes[0];
+    let old = *carrier;
+    let (word, answer) = match case.kind {
+        Kind::CarrierTake => ("take", take_commitments(old, message.as_slice())),
+        Kind::CarrierAlpha => ("alpha", set_alpha(old, byte)),
+        Kind::CarrierMiddle => ("middle", take_middle(old, message.as_slice())),
+        Kind::CarrierAsk => ("ask", set_challenge(old, byte)),
+        _ => return None,
     };
-    CarrierStep { outcome, carrier }
+    Some(said(rt, word, case, answer, carrier))
 }
 
-fn open_call<'a, R: Print>(
+// Prints accept or reject too, which the case has as a byte, 1 or 0, and its fill where the call is refused.
+fn judge_call<R: Print>(
     rt: &R,
-    file: &'a [u8],
-    head: Head,
-    at: usize,
-    system: &'a [u8],
-    old: Carrier,
-) -> CarrierStep {
-    let scheme = cases::load_byte(file, at);
-    let rounds = cases::load_byte(file, scheme.next);
-    let v = cases::load_small(file, rounds.next);
-    if v.next == 0 {
-        return no_call(old);
-    }
-    let v_bytes = v.bytes;
-    let answer = carrier::open(
-        system,
-        scheme.value,
-        rounds.value,
-        part(&v_bytes, 0, v.length),
-    );
-    said(rt, b"carrier ", v.next, head.number, answer)
-}
-
-// The calls with one message.
-fn message_call<R: Print>(rt: &R, file: &[u8], head: Head, at: usize, old: Carrier) -> CarrierStep {
-    let message = cases::load_small(file, at);
-    let bytes = message.bytes;
-    let next = message.next;
-    if next == 0 {
-        return no_call(old);
-    }
-    given(rt, head, next, old, part(&bytes, 0, message.length))
-}
-
-// The step after a call with this message; its first byte is α or the challenge.
-fn given<R: Print>(rt: &R, head: Head, next: usize, old: Carrier, message: &[u8]) -> CarrierStep {
-    let kind = head.kind;
-    let number = head.number;
-    let byte = byte_at(message, 0);
-    match kind {
-        17 => said(rt, b"take ", next, number, take_commitments(old, message)),
-        18 => said(rt, b"alpha ", next, number, set_alpha(old, byte)),
-        19 => said(rt, b"middle ", next, number, take_middle(old, message)),
-        20 => said(rt, b"ask ", next, number, set_challenge(old, byte)),
-        _ => no_call(old),
-    }
-}
-
-fn judge_call<'a, R: Print>(
-    rt: &R,
-    file: &'a [u8],
-    head: Head,
-    at: usize,
-    system: &'a [u8],
-    old: Carrier,
-) -> CarrierStep {
-    let reply = cases::load_small(file, at);
-    let expected = cases::load_byte(file, reply.next);
-    if expected.next == 0 {
-        return no_call(old);
-    }
-    let reply_bytes = reply.bytes;
-    let judged = carrier::take_reply(old, system, part(&reply_bytes, 0, reply.length));
-    say_answer(rt, b"judge ", judged.refusal);
-    let carrier = judged.carrier;
-    CarrierStep {
-        outcome: judgement(rt, head, expected, judged),
-        carrier,
-    }
-}
-
-// Prints accept or reject, which the case has as a byte, 1 or 0, and its fill where the call is refused.
-fn judgement<R: Print>(rt: &R, head: Head, expected: Byte, judged: Judged) -> Outcome {
-    let byte = if judged.refusal != 0 {
-        head.fill
+    mut case: Case,
+    buffer: &mut [u8],
+    carrier: &mut Carrier,
+) -> Option<bool> {
+    let system = case.pieces.load(buffer)?;
+    let reply = case.pieces.small()?;
+    let expected = case.pieces.byte()?;
+    let judged = carrier::take_reply(*carrier, system, reply.as_slice());
+    let number = judged.refusal;
+    *carrier = judged.carrier;
+    let (verdict, byte) = if number != 0 {
+        ("", case.fill)
     } else if judged.accepted {
-        say(rt, b" accept");
-        1
+        (" accept", 1)
     } else {
-        say(rt, b" reject");
-        0
+        (" reject", 0)
     };
-    Outcome {
-        next: expected.next,
-        agrees: judged.refusal == head.number && expected.value == byte,
-    }
+    let _ = print!(rt; "judge {number}{verdict}");
+    Some(number == case.number && expected == byte)
 }

@@ -1,151 +1,108 @@
-// The parts of a line: a call's word, its number and its output's digest, then both sessions.
+// The parts of a line behind a call's word and number: its output's digest, then both sessions.
 use card_state::{Card, CardPhase};
 use carrier_state::{Carrier, CarrierPhase};
 use hex_text::append_hex;
 use scheme::Scheme;
 use session_state::Verdict;
-use slices::part;
 
 // How many digits of a digest are shown: those of its first 8 bytes.
 const SHOWN: usize = 16;
 
-pub fn say<R: Print>(rt: &R, text: &[u8]) {
-    files::print(rt, text);
-}
-
-// The call's word, which a space ends, and its number.
-pub fn say_answer<R: Print>(rt: &R, word: &[u8], number: u8) {
-    say(rt, word);
-    let _ = print!(rt; "{number}");
-}
-
 // The start of an output's SHA-256.
 pub fn say_digest<R: Print>(rt: &R, out: &[u8]) {
     let mut digest = [0u8; 32];
-    sha256::digest(out, &mut digest);
-    say(rt, b" ");
-    say_start(rt, &digest);
-}
-
-fn say_start<R: Print>(rt: &R, digest: &[u8; 32]) {
     let mut text = [0u8; 64];
-    append_hex(&mut text, 0, digest);
-    say(rt, part(&text, 0, SHOWN));
+    sha256::digest(out, &mut digest);
+    append_hex(&mut text, 0, &digest);
+    files::print(rt, b" ");
+    files::print(rt, &text[..SHOWN]);
 }
 
 // Both sessions: the call due or the verdict, the count, and a letter for each part that is not zero.
-pub fn end_line<R: Print>(rt: &R, card: Card, carrier: Carrier) {
-    let card_phase = card.phase;
-    let carrier_phase = carrier.phase;
-    let card_scheme = card.scheme;
-    let carrier_scheme = carrier.scheme;
-    let of_card = [
-        scheme_number(card_scheme),
-        card.q,
-        card.n,
-        card.m,
-        card.rounds,
-    ];
-    let of_carrier = [
-        scheme_number(carrier_scheme),
-        carrier.q,
-        carrier.n,
-        carrier.m,
-        carrier.rounds,
-    ];
-    say(rt, b" ");
-    let card_closed = say_card_phase(rt, card_phase);
+pub fn end_line<R: Print>(rt: &R, card: &Card, carrier: &Carrier) {
+    say_card(rt, card);
+    say_carrier(rt, carrier);
+}
+
+// n for the numbers of a closed session, s for the secret, r for what is held of the round.
+fn say_card<R: Print>(rt: &R, card: &Card) {
+    let due = card_due(card.phase);
     let round = card.round;
-    let _ = print!(rt; "{round}");
-    say_if(rt, card_closed && any(&of_card), b"n");
-    say_secret(rt, card);
-    say(rt, b" ");
-    let carrier_closed = say_carrier_phase(rt, carrier_phase);
+    let numbers = is_closed_card(card.phase)
+        && has_numbers(card.scheme, [card.q, card.n, card.m, card.rounds]);
+    let vectors = any(&card.r0) || any(&card.t0) || any(&card.e0) || any(&card.e1);
+    let rhos = any(&card.rhos.rho0) || any(&card.rhos.rho1) || any(&card.rhos.rho2);
+    let n = letter(numbers, "n");
+    let s = letter(any(&card.s), "s");
+    let r = letter(vectors || rhos, "r");
+    let _ = print!(rt; " {due}{round}{n}{s}{r}");
+}
+
+// n for the numbers of a closed session, v for the key, m for the round's messages.
+fn say_carrier<R: Print>(rt: &R, carrier: &Carrier) {
+    let due = carrier_due(carrier.phase);
     let accepted = carrier.accepted;
-    let _ = print!(rt; "{accepted}");
-    say_if(rt, carrier_closed && any(&of_carrier), b"n");
-    say_messages(rt, carrier);
-    say(rt, b"\n");
+    let numbers = is_closed_carrier(carrier.phase)
+        && has_numbers(
+            carrier.scheme,
+            [carrier.q, carrier.n, carrier.m, carrier.rounds],
+        );
+    let messages = any(&carrier.commitments) || any(&carrier.turn) || carrier.challenge != 0;
+    let n = letter(numbers, "n");
+    let v = letter(any(&carrier.v), "v");
+    let m = letter(messages, "m");
+    let _ = println!(rt; " {due}{accepted}{n}{v}{m}");
 }
 
-// 0 for the first scheme, which a closed session has.
-fn scheme_number(scheme: Scheme) -> u8 {
+fn is_closed_card(phase: CardPhase) -> bool {
+    matches!(phase, CardPhase::Closed(_))
+}
+
+fn is_closed_carrier(phase: CarrierPhase) -> bool {
+    matches!(phase, CarrierPhase::Closed(_))
+}
+
+// Is a number of a session another than a closed session's, which is of the first scheme?
+fn has_numbers(scheme: Scheme, numbers: [u8; 4]) -> bool {
     match scheme {
-        Scheme::ThreePass => 0,
-        Scheme::FivePass => 1,
+        Scheme::ThreePass => any(&numbers),
+        Scheme::FivePass => true,
     }
 }
 
-// Answers whether the session is closed.
-fn say_card_phase<R: Print>(rt: &R, phase: CardPhase) -> bool {
+fn card_due(phase: CardPhase) -> &'static str {
     match phase {
-        CardPhase::Commit => open(rt, b"commit"),
-        CardPhase::AnswerAlpha => open(rt, b"answer"),
-        CardPhase::Reply => open(rt, b"reply"),
-        CardPhase::Closed(verdict) => closed(rt, verdict),
+        CardPhase::Commit => "commit",
+        CardPhase::AnswerAlpha => "answer",
+        CardPhase::Reply => "reply",
+        CardPhase::Closed(verdict) => ended(verdict),
     }
 }
 
-// The same.
-fn say_carrier_phase<R: Print>(rt: &R, phase: CarrierPhase) -> bool {
+fn carrier_due(phase: CarrierPhase) -> &'static str {
     match phase {
-        CarrierPhase::TakeCommitments => open(rt, b"take"),
-        CarrierPhase::SetAlpha => open(rt, b"alpha"),
-        CarrierPhase::TakeMiddle => open(rt, b"middle"),
-        CarrierPhase::SetChallenge => open(rt, b"ask"),
-        CarrierPhase::TakeReply => open(rt, b"judge"),
-        CarrierPhase::Closed(verdict) => closed(rt, verdict),
+        CarrierPhase::TakeCommitments => "take",
+        CarrierPhase::SetAlpha => "alpha",
+        CarrierPhase::TakeMiddle => "middle",
+        CarrierPhase::SetChallenge => "ask",
+        CarrierPhase::TakeReply => "judge",
+        CarrierPhase::Closed(verdict) => ended(verdict),
     }
 }
 
-fn open<R: Print>(rt: &R, due: &[u8]) -> bool {
-    say(rt, due);
-    false
-}
-
-fn closed<R: Print>(rt: &R, verdict: Verdict) -> bool {
+fn ended(verdict: Verdict) -> &'static str {
     match verdict {
-        Verdict::None => say(rt, b"none"),
-        Verdict::Accepted => say(rt, b"accepted"),
-        Verdict::Rejected => say(rt, b"rejected"),
+        Verdict::None => "none",
+        Verdict::Accepted => "accepted",
+        Verdict::Rejected => "rejected",
     }
-    true
 }
 
-// s for the secret, r for what is held of the round.
-fn say_secret<R: Print>(rt: &R, card: Card) {
-    let s = card.s;
-    let r0 = card.r0;
-    let t0 = card.t0;
-    let e0 = card.e0;
-    let e1 = card.e1;
-    let held = card.rhos;
-    let rho0 = held.rho0;
-    let rho1 = held.rho1;
-    let rho2 = held.rho2;
-    let vectors = any(&r0) || any(&t0) || any(&e0) || any(&e1);
-    let rhos = any(&rho0) || any(&rho1) || any(&rho2);
-    say_if(rt, any(&s), b"s");
-    say_if(rt, vectors || rhos, b"r");
-}
-
-// v for the key, m for the round's messages.
-fn say_messages<R: Print>(rt: &R, carrier: Carrier) {
-    let v = carrier.v;
-    let commitments = carrier.commitments;
-    let turn = carrier.turn;
-    let messages = any(&commitments) || any(&turn) || carrier.challenge != 0;
-    say_if(rt, any(&v), b"v");
-    say_if(rt, messages, b"m");
-}
-
-fn say_if<R: Print>(rt: &R, test: bool, letter: &[u8]) {
-    if test {
-        say(rt, letter);
-    }
+fn letter(shown: bool, letter: &'static str) -> &'static str {
+    if shown { letter } else { "" }
 }
 
 // Is a byte not zero?
 fn any(bytes: &[u8]) -> bool {
-    !field::all_below(1, bytes)
+    bytes.iter().any(|byte| *byte != 0)
 }

@@ -1,17 +1,18 @@
 -- A digest is 32 numbers, each a byte: its bytes are those of its eight words.
-use mathlib.Core.Path.{◌≡◌, refl, sym, ap, ◌∙◌}
-use mathlib.Core.List.{List, [], ◌∷◌, ◌++◌}
+use mathlib.Core.Path.{◌≡◌, refl, sym, ap, ap₂, ◌∙◌}
+use mathlib.Core.List.{List, [], ◌∷◌, ◌++◌, append_assoc, append-nil}
 use Prim.Native.Nat.{ℕ, suc, ◌+◌, ◌-◌, ◌*◌, ◌/◌, ◌%◌, ◌<◌, ◌≤◌}
 use native.Mathlib.Nat.{mod-lt}
 use native.Mathlib.Decide.{dec_lt}
 use native.Mathlib.Omega.{arith}
 use lib.Dec.{lit<}
-use lib.ListN.{length, get_or, length-append, get_or-append, get_or-eq_default}
-use lib.Seq.{get_or-append-add}
+use lib.ListN.{length, get_or, length-append, get_or-append, get_or-eq_default, take}
+use lib.Seq.{get_or-append-add, take-suc}
+use borrow.Rule.Slice.PartMut.{put_mid}
+use Rattle.std.proofs.lemmas.Slice.{take-put_mid}
+use native.Mathlib.Numerals.{add-one}
 use Rattle.sha256_block.specs.Bytes.{byte_of, bytes_of}
 use Rattle.sha256.specs.Sha256.{joined, hash_words, sha256}
-use Rattle.slices.specs.Slices.{tabulate}
-use Rattle.slices.proofs.Tabulate.{tabulate_of}
 use Rattle.sha256.proofs.NumberBytes.{length-bytes_of, get_or-bytes_of}
 
 pub length-joined : (ws : List ℕ) → length (joined ws) ≡ 4 * length ws
@@ -37,13 +38,22 @@ joined_at (w ∷ ws) i h =
           ∙ joined_at ws k (omega arith) ∙ rw (q, r)
     ]
 
--- byte i of words one after the other
-unfoldable pub joined_byte : List ℕ → ℕ → ℕ
-joined_byte w i = byte_of 4 (get_or w (i / 4) 0) (i % 4)
+joined-append : (u v : List ℕ) → joined (u ++ v) ≡ joined u ++ joined v
+unfolding joined
+joined-append [] v = refl
+joined-append (w ∷ u) v = ap (λ (l : List ℕ). bytes_of 4 w ++ l) (joined-append u v) ∙ sym (append_assoc (bytes_of 4 w) (joined u) (joined v))
 
-pub joined_bytes : (w : List ℕ) (n : ℕ) → 4 * length w ≡ n → tabulate n (joined_byte w) ≡ joined w
-unfolding joined_byte
-joined_bytes w n e = sym (tabulate_of (joined w) n (joined_byte w) (length-joined w ∙ e) (λ i h. joined_at w i (omega arith)))
+joined_word : (w : ℕ) → joined (w ∷ []) ≡ bytes_of 4 w
+unfolding joined
+joined_word w = append-nil (bytes_of 4 w)
+
+-- what holds the bytes of the first i words, once those of word i are put behind them
+pub joined_more : (w out part : List ℕ) (i k : ℕ) → i < length w → 4 * i ≤ length out → take (4 * i) out ≡ joined (take i w) → part ≡ bytes_of 4 (get_or w i 0) →
+    take (4 * (i + 1)) (put_mid (4 * i) k out part) ≡ joined (take (i + 1) w)
+joined_more w out part i k h room e is =
+    let long : length part ≡ 4 = ap length is ∙ length-bytes_of 4 (get_or w i 0) in
+    take-put_mid (4 * i) k out part (4 * (i + 1)) (omega arith) room ∙ ap₂ (λ (s t : List ℕ). s ++ t) e (is ∙ sym (joined_word (get_or w i 0))) ∙
+    sym (joined-append (take i w) (get_or w i 0 ∷ [])) ∙ ap joined (sym (ap (λ (n : ℕ). take n w) (add-one i) ∙ take-suc w i 0 h))
 
 byte_below : (k n j : ℕ) → byte_of k n j < 256
 unfolding byte_of

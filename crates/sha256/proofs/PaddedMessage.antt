@@ -1,10 +1,11 @@
 -- The padded message: its length, its bytes, and its blocks.
-use mathlib.Core.Path.{◌≡◌, sym, ap, ◌∙◌}
-use mathlib.Core.List.{List, ◌∷◌, ◌++◌}
-use Prim.Native.Nat.{ℕ, suc, ◌+◌, ◌-◌, ◌*◌, ◌/◌, ◌%◌, ◌<◌, ◌≤◌}
+use mathlib.Core.Path.{◌≡◌, refl, sym, ap, ◌∙◌}
+use mathlib.Core.List.{List, [], ◌∷◌, ◌++◌}
+use Prim.Native.Nat.{ℕ, zero, suc, ◌+◌, ◌-◌, ◌*◌, ◌/◌, ◌%◌, ◌<◌, ◌≤◌}
 use native.Mathlib.Omega.{arith}
 use lib.ListN.{length, get_or, take, drop, replicate, length-append, length-replicate, get_or-replicate, length-drop, get_or-append}
-use lib.Seq.{get_or-append-add, get_or_at, get_or-take, get_or-drop, take-append-le, drop-append-le, length-take-le}
+use lib.Seq.{get_or-append-add, get_or_at, get_or-take, get_or-drop, take-append-le, drop-append-le, drop-drop, length-take-le}
+use Rattle.std.specs.Simd.{first_chunks}
 use Rattle.sha256_block.specs.Bytes.{byte_of, bytes_of}
 use Rattle.sha256.specs.Padding.{zero_bytes, pad, block_count, block}
 use Rattle.sha256.proofs.NumberBytes.{length-bytes_of, get_or-bytes_of}
@@ -92,10 +93,12 @@ whole_block m i h =
     block-append (front m) (bytes_of 8 (8 * length m)) i (rw length_front (omega arith))
     ∙ block-append m (0x80 ∷ replicate (zero_bytes (length m)) 0) i h
 
--- a block as a part of a slice
-pub part_block : (m : List ℕ) (i : ℕ) → take (64 * i + 64 - 64 * i) (drop (64 * i) m) ≡ block m i
+-- a block of a slice taken as whole blocks
+pub chunk_block : (m : List ℕ) (k i : ℕ) → i < k → get_or (first_chunks 64 k m) i [] ≡ block m i
 unfolding block
-part_block m i = let e : 64 * i + 64 - 64 * i ≡ 64 = omega arith in ap (λ (n : ℕ). take n (drop (64 * i) m)) e
+chunk_block m zero i h = absurd (omega arith)
+chunk_block m (suc k) zero h = refl
+chunk_block m (suc k) (suc i) h = chunk_block (drop 64 m) k i (omega arith) ∙ ap (take 64) (drop-drop (64 * i) 64 m ∙ ap (λ (n : ℕ). drop n m) (omega arith))
 
 module _ (p : List ℕ) (i : ℕ) (h : i < block_count p) where
   within : 64 * i + 64 ≤ length p

@@ -6,7 +6,6 @@
 mod padding;
 
 ghost use Rattle.std.specs.Prelude.{◌≡◌, ◌/◌, ◌<◌, ◌≤◌, length};
-ghost use Rattle.sha256_block.specs.Bytes.{byte_of};
 ghost use Rattle.sha256.specs.Padding.{pad, block_count};
 ghost use Rattle.sha256.specs.Sha256.{hash_value, hash_words, sha256};
 ghost use Rattle.sha256_block.specs.State.{variables};
@@ -21,14 +20,10 @@ use slices::put;
 fn whole_blocks(message: &[u8]) -> State
     ensures { variables result ≡ hash_value (pad message.now) (length message.now / 64) }
 {
-    let count = message.len() / 64;
+    let (blocks, _) = message.as_chunks::<64>();
     let mut s = initial_state();
-    let mut i = 0;
-    while i < count {
-        let at = 64 * i;
-        let end = at + 64;
-        s = hash_block(s, &message[at..end]);
-        i += 1;
+    for block in blocks {
+        s = hash_block(s, block);
     }
     s
 }
@@ -40,27 +35,19 @@ fn last_value(message: &[u8]) -> State
 {
     let count = block_count(message.len());
     let mut s = whole_blocks(message);
-    let mut i = message.len() / 64;
-    while i < count {
+    for i in message.len() / 64..count {
         let b = padded_block(message, i);
         s = hash_block(s, &b);
-        i += 1;
     }
     s
 }
 
+// The words of a hash value, H_0 first.
+#[tactic(auto, unfolding(crate::specs::Sha256::hash_words))]
 fn words(s: State) -> [u32; 8]
     ensures { result ≡ hash_words (variables s) }
 {
     [s.a, s.b, s.c, s.d, s.e, s.f, s.g, s.h]
-}
-
-// Byte j of a word, the high byte first.
-fn byte_of(w: u32, j: usize) -> u8
-    requires { j < 4 }
-    ensures { result ≡ byte_of 4 w j }
-{
-    ((w >> (8 * (3 - j))) % 256) as u8
 }
 
 // The digest of a message.
@@ -70,10 +57,9 @@ pub fn hash(message: &[u8]) -> [u8; 32]
 {
     let w = words(last_value(message));
     let mut out = [0u8; 32];
-    let mut i = 0;
-    while i < 32 {
-        out[i] = byte_of(w[i / 4], i % 4);
-        i += 1;
+    for i in 0..8 {
+        let at = 4 * i;
+        out[at..at + 4].copy_from_slice(&w[i].to_be_bytes());
     }
     out
 }

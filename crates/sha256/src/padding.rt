@@ -16,7 +16,7 @@ fn length_byte(n: usize, j: usize) -> u8
     requires { (n ≤ 65535) × (j < 8) }
     ensures { result ≡ byte_of 8 (8 * n) j }
 {
-    (((8 * n) >> (8 * (7 - j))) % 256) as u8
+    (8 * n as u64).to_be_bytes()[j]
 }
 
 // The byte at a place of the padded message.
@@ -45,10 +45,8 @@ pub fn padded_block(message: &[u8], i: usize) -> [u8; 64]
 {
     let at = 64 * i;
     let mut b = [0u8; 64];
-    let mut j = 0;
-    while j < 64 {
+    for j in 0..64 {
         b[j] = padded_byte(message, at + j);
-        j += 1;
     }
     b
 }

@@ -6,14 +6,7 @@ ghost use Rattle.sha256_block.specs.State.{variables};
 
 use crate::constants::constants;
 use crate::state::State;
-use crate::word::{add, choose, lower_sigma0, lower_sigma1, majority, upper_sigma0, upper_sigma1};
-
-// A byte as a word.
-fn wide(x: u8) -> u32
-    ensures { (result ≡ x) × (result < 256) }
-{
-    x as u32
-}
+use crate::word::{choose, lower_sigma0, lower_sigma1, majority, upper_sigma0, upper_sigma1};
 
 // The word that bytes 4i to 4i + 3 of a block are, the high byte first.
 fn word_at(block: &[u8], i: usize) -> u32
@@ -21,11 +14,7 @@ fn word_at(block: &[u8], i: usize) -> u32
     ensures { result ≡ word_at block.now i }
 {
     let at = 4 * i;
-    let b0 = wide(block[at]);
-    let b1 = wide(block[at + 1]);
-    let b2 = wide(block[at + 2]);
-    let b3 = wide(block[at + 3]);
-    b0 * 0x1000000 + b1 * 0x10000 + b2 * 0x100 + b3
+    u32::from_be_bytes([block[at], block[at + 1], block[at + 2], block[at + 3]])
 }
 
 // A message schedule whose first sixteen words are the block's, and the others not set yet.
@@ -34,10 +23,8 @@ fn load(block: &[u8]) -> [u32; 64]
     ensures { (length result ≡ 64) × (take 16 result ≡ words_of block.now) }
 {
     let mut w = [0u32; 64];
-    let mut i = 0;
-    while i < 16 {
+    for i in 0..16 {
         w[i] = word_at(block, i);
-        i += 1;
     }
     w
 }
@@ -47,30 +34,27 @@ fn next_word(w: &[u32; 64], t: usize) -> u32
     requires { (16 ≤ t) × (t < 64) }
     ensures { result ≡ next_word w.now t }
 {
-    add(
-        add(
-            add(lower_sigma1(w[t - 2]), w[t - 7]),
-            lower_sigma0(w[t - 15]),
-        ),
-        w[t - 16],
-    )
+    lower_sigma1(w[t - 2])
+        .wrapping_add(w[t - 7])
+        .wrapping_add(lower_sigma0(w[t - 15]))
+        .wrapping_add(w[t - 16])
 }
 
 // The word T1 of a round, with its constant and its word of the message schedule.
 fn first_sum(s: State, k: u32, w: u32) -> u32
     ensures { result ≡ T1 k w (variables s) }
 {
-    add(
-        add(add(add(s.h, upper_sigma1(s.e)), choose(s.e, s.f, s.g)), k),
-        w,
-    )
+    s.h.wrapping_add(upper_sigma1(s.e))
+        .wrapping_add(choose(s.e, s.f, s.g))
+        .wrapping_add(k)
+        .wrapping_add(w)
 }
 
 // The word T2 of a round.
 fn second_sum(s: State) -> u32
     ensures { result ≡ T2 (variables s) }
 {
-    add(upper_sigma0(s.a), majority(s.a, s.b, s.c))
+    upper_sigma0(s.a).wrapping_add(majority(s.a, s.b, s.c))
 }
 
 // One round, with its constant and its word of the message schedule.
@@ -80,11 +64,11 @@ fn round(s: State, k: u32, w: u32) -> State
     let t1 = first_sum(s, k, w);
     let t2 = second_sum(s);
     State {
-        a: add(t1, t2),
+        a: t1.wrapping_add(t2),
         b: s.a,
         c: s.b,
         d: s.c,
-        e: add(s.d, t1),
+        e: s.d.wrapping_add(t1),
         f: s.e,
         g: s.f,
         h: s.g,
@@ -96,14 +80,14 @@ fn add_states(s: State, t: State) -> State
     ensures { variables result ≡ added (variables s) (variables t) }
 {
     State {
-        a: add(s.a, t.a),
-        b: add(s.b, t.b),
-        c: add(s.c, t.c),
-        d: add(s.d, t.d),
-        e: add(s.e, t.e),
-        f: add(s.f, t.f),
-        g: add(s.g, t.g),
-        h: add(s.h, t.h),
+        a: s.a.wrapping_add(t.a),
+        b: s.b.wrapping_add(t.b),
+        c: s.c.wrapping_add(t.c),
+        d: s.d.wrapping_add(t.d),
+        e: s.e.wrapping_add(t.e),
+        f: s.f.wrapping_add(t.f),
+        g: s.g.wrapping_add(t.g),
+        h: s.h.wrapping_add(t.h),
     }
 }
 
@@ -115,14 +99,12 @@ pub fn hash_block(value: State, block: &[u8]) -> State
     let k = constants();
     let mut w = load(block);
     let mut s = value;
-    let mut t = 0;
-    while t < 64 {
+    for t in 0..64 {
         s = round(s, k[t], w[t]);
         if t < 48 {
             let next = t + 16;
             w[next] = next_word(&w, next);
         }
-        t += 1;
     }
     add_states(s, value)
 }

@@ -17,6 +17,7 @@ const ROUND_CONSTANTS: [u32; 64] = [
 ];
 
 // The 64 round constants, to be fetched once for a block.
+#[tactic(auto, unfolding(crate::specs::Constants::K))]
 pub fn constants() -> [u32; 64]
     ensures { result ≡ K }
 {
@@ -24,6 +25,7 @@ pub fn constants() -> [u32; 64]
 }
 
 // The hash value that the first block is hashed into.
+#[tactic(auto, unfolding(crate::specs::Constants::initial))]
 pub fn initial_state() -> State
     ensures { variables result ≡ initial }
 {

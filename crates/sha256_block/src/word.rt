@@ -1,15 +1,9 @@
-// The operations on 32-bit words of FIPS 180-4, 3.2 and 4.1.2.
+// The operations on 32-bit words of FIPS 180-4, 3.2 and 4.1.2, but for the sum modulo 2^32, which is `wrapping_add`.
 ghost use Rattle.std.specs.Prelude.{◌≡◌, ◌<◌};
-ghost use Rattle.sha256_block.specs.Words.{◌⊞◌, ROTR, Ch, Maj, Σ0, Σ1, σ0, σ1};
+ghost use Rattle.sha256_block.specs.Words.{ROTR, Ch, Maj, Σ0, Σ1, σ0, σ1};
 
-// The sum modulo 2^32.
-pub fn add(x: u32, y: u32) -> u32
-    ensures { result ≡ x ⊞ y }
-{
-    std::num::wrapping_add_u32(x, y)
-}
-
-// x rotated right by n bits.
+// x rotated right by n bits. Rotations are the program's own: a rule of the project, so not the library's `rotate_right`.
+#[tactic(auto, unfolding(crate::specs::Words::ROTR))]
 pub fn rotate_right(x: u32, n: u32) -> u32
     requires { (0 < n) × (n < 32) }
     ensures { result ≡ ROTR n x }
@@ -18,6 +12,7 @@ pub fn rotate_right(x: u32, n: u32) -> u32
 }
 
 // The bits of y where x has ones, and those of z where it has zeros.
+#[tactic(auto, unfolding(crate::specs::Words::Ch))]
 pub fn choose(x: u32, y: u32, z: u32) -> u32
     ensures { result ≡ Ch x y z }
 {
@@ -25,12 +20,14 @@ pub fn choose(x: u32, y: u32, z: u32) -> u32
 }
 
 // The bits that two or three of the words have.
+#[tactic(auto, unfolding(crate::specs::Words::Maj))]
 pub fn majority(x: u32, y: u32, z: u32) -> u32
     ensures { result ≡ Maj x y z }
 {
     (x & y) ^ (x & z) ^ (y & z)
 }
 
+// The four functions stay apart: each is its definition in the standard, of which one with const parameters would show no amount.
 pub fn upper_sigma0(x: u32) -> u32
     ensures { result ≡ Σ0 x }
 {

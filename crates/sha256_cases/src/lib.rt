@@ -1,24 +1,16 @@
 // Cases of SHA-256.
 #![tactic(auto)]
 
-use cases::Outcome;
-use slices::part;
+use cases::{Case, Kind};
 
-// The kind of a digest.
-const DIGEST: u8 = 3;
-
-// Runs the case at `at`, whose message the buffer has room for. A case of another kind is malformed.
-pub fn sha256_case(file: &[u8], at: usize, buffer: &mut [u8]) -> Outcome {
-    let head = cases::head_at(file, at);
-    if head.kind != DIGEST {
-        return cases::malformed();
+// Runs a case, whose message the buffer has room for, and answers whether it agrees. A case of another kind is malformed.
+pub fn sha256_case(mut case: Case, buffer: &mut [u8]) -> Option<bool> {
+    if case.kind != Kind::Digest {
+        return None;
     }
-    let message = cases::load(file, head.next, buffer);
-    let expected = cases::load_small(file, message.next);
-    let mut out = [head.fill; 512];
-    let number = sha256::digest(
-        part(buffer, 0, message.length),
-        cases::front(&mut out, expected.length),
-    );
-    cases::compared(expected, number == head.number, out)
+    let message = case.pieces.load(buffer)?;
+    let expected = case.pieces.small()?;
+    let mut out = [case.fill; 512];
+    let number = sha256::digest(message, &mut out[..expected.length]);
+    Some(case.agrees(number, &expected, &out))
 }

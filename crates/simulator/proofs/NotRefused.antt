@@ -6,7 +6,8 @@ use mathlib.Core.List.{List}
 use lib.Dec.{leb, eqb}
 use lib.ListN.{length, take}
 use borrow.Author.Tests.{leb-true, eqb-false, not-true}
-use Rattle.refusal.proofs.Refusals.{first_zero, later_zero, test_holds, equal_holds}
+use Rattle.refusal.proofs.Refusals.{first_zero, later_zero, test_holds, equal_holds, or_else_assoc}
+use Rattle.refusal.proofs.Answers.{refusal_decides, none_decides, refused_kept, none_kept}
 use Rattle.field.specs.Vector.{all_below}
 use Rattle.system.specs.System.{q_of, n_of, m_of, system_refusal}
 use Rattle.scheme.specs.declared.Scheme.TheVariants.{ThreePass}
@@ -47,3 +48,6 @@ taken b v unanswered challenge lent commitments reply none =
       challenge_value = leb-true challenge 2 (test_holds (leb challenge 2) 4 tt (first_zero _ _ after_unanswered));
       other = λ e. eqb-false unanswered challenge (not-true (eqb unanswered challenge) (test_holds (not (eqb unanswered challenge)) 4 tt (later_zero _ _ after_unanswered))) (sym e);
     }
+
+-- what a chain of answers and the outputs' states need
+pub ruleset answers = (or_else_assoc, refusal_decides, none_decides, refused_kept, none_kept)

@@ -3,7 +3,14 @@
 #![tactic(auto)]
 
 ghost use Rattle.std.specs.Prelude.{◌≡◌, ◌+◌, ◌≤◌, ◌<◌, ◌++◌, length, take, drop};
-ghost use Rattle.slices.specs.Slices.{◌!◌, tabulate, same, placed, word as word_of, number as number_of};
+ghost use Rattle.slices.specs.Slices.{◌!◌, tabulate, same, placed, zeros as zeros_of, word as word_of, number as number_of};
+
+// N zeros. Their count, beside what is held, is what lending an array as a slice needs.
+pub fn zeros<const N: usize>() -> [u8; N]
+    ensures { (result ≡ zeros_of N) × (N ≡ length result) }
+{
+    [0; N]
+}
 
 // The byte at place i, and 0 beyond the end.
 pub fn byte_at(s: &[u8], i: usize) -> u8

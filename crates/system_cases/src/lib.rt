@@ -1,64 +1,38 @@
 // Cases of the system's check, of F and of G.
 #![tactic(auto)]
 
-use cases::{Head, Outcome};
-use slices::part;
+use cases::{Case, Kind};
 
-// The kinds of the calls.
-const CHECK: u8 = 0;
-
-const EVALUATE: u8 = 1;
-
-const POLAR: u8 = 2;
-
-// Runs the case at `at`, whose system the buffer has room for. A case of another kind is malformed.
-pub fn system_case(file: &[u8], at: usize, buffer: &mut [u8]) -> Outcome {
-    let head = cases::head_at(file, at);
-    let system = cases::load(file, head.next, buffer);
-    call_case(file, head, system.next, part(buffer, 0, system.length))
-}
-
-// The case of a kind, whose pieces behind the system start at `at`.
-fn call_case<'a>(file: &'a [u8], head: Head, at: usize, system: &'a [u8]) -> Outcome {
-    if head.kind == CHECK {
-        Outcome {
-            next: at,
-            agrees: system::check(system) == head.number,
-        }
-    } else if head.kind == EVALUATE {
-        evaluate_case(file, head, at, system)
-    } else if head.kind == POLAR {
-        polar_case(file, head, at, system)
-    } else {
-        cases::malformed()
+// Runs a case, whose system the buffer has room for, and answers whether it agrees. A case of another kind is malformed.
+pub fn system_case(mut case: Case, buffer: &mut [u8]) -> Option<bool> {
+    let system = case.pieces.load(buffer)?;
+    match case.kind {
+        Kind::CheckSystem => Some(system::check(system) == case.number),
+        Kind::Evaluate => evaluate_case(case, system),
+        Kind::Polar => polar_case(case, system),
+        _ => None,
     }
 }
 
-fn evaluate_case<'a>(file: &'a [u8], head: Head, at: usize, system: &'a [u8]) -> Outcome {
-    let x = cases::load_small(file, at);
-    let expected = cases::load_small(file, x.next);
-    let x_bytes = x.bytes;
-    let mut out = [head.fill; 512];
-    let number = evaluation::evaluate(
-        system,
-        part(&x_bytes, 0, x.length),
-        cases::front(&mut out, expected.length),
-    );
-    cases::compared(expected, number == head.number, out)
+// The case's pieces are those behind the system, here and below.
+fn evaluate_case(mut case: Case, system: &[u8]) -> Option<bool> {
+    let x = case.pieces.small()?;
+    let expected = case.pieces.small()?;
+    let mut out = [case.fill; 512];
+    let number = evaluation::evaluate(system, x.as_slice(), &mut out[..expected.length]);
+    Some(case.agrees(number, &expected, &out))
 }
 
-fn polar_case<'a>(file: &'a [u8], head: Head, at: usize, system: &'a [u8]) -> Outcome {
-    let x = cases::load_small(file, at);
-    let y = cases::load_small(file, x.next);
-    let expected = cases::load_small(file, y.next);
-    let x_bytes = x.bytes;
-    let y_bytes = y.bytes;
-    let mut out = [head.fill; 512];
+fn polar_case(mut case: Case, system: &[u8]) -> Option<bool> {
+    let x = case.pieces.small()?;
+    let y = case.pieces.small()?;
+    let expected = case.pieces.small()?;
+    let mut out = [case.fill; 512];
     let number = evaluation::polar(
         system,
-        part(&x_bytes, 0, x.length),
-        part(&y_bytes, 0, y.length),
-        cases::front(&mut out, expected.length),
+        x.as_slice(),
+        y.as_slice(),
+        &mut out[..expected.length],
     );
-    cases::compared(expected, number == head.number, out)
+    Some(case.agrees(number, &expected, &out))
 }

@@ -18,19 +18,16 @@ fn last_digit(k: u32) -> u8
 }
 
 // How many digits a number has.
+#[tactic(auto, unfolding(crate::specs::Text::decimal))]
 fn digit_count(k: u32) -> usize
     ensures { (result ≡ length (decimal k)) × (1 ≤ result) × (result ≤ 4) }
 {
-    if k < 10 {
-        return 1;
+    match k {
+        0..=9 => 1,
+        10..=99 => 2,
+        100..=999 => 3,
+        _ => 4,
     }
-    if k < 100 {
-        return 2;
-    }
-    if k < 1000 {
-        return 3;
-    }
-    4
 }
 
 // Puts s from `at` on.
@@ -57,14 +54,22 @@ fn append_decimal(text: &mut [u8], at: usize, k: u32) -> usize
     append(text, at, part(&digits, 4 - count, count))
 }
 
-// Puts a word and a number.
+// Puts a word and a number below 10,000, where there is room for its digits.
+fn append_numbered(text: &mut [u8], at: usize, word: &[u8], k: u32) -> usize
+    requires { at + length (numbered word.now k) ≤ length text.old }
+    ensures { (text.new ≡ placed text.old «at» (numbered word.now k)) × (result ≡ at + length (numbered word.now k)) }
+{
+    let next = append(text, at, word);
+    append_decimal(text, next, k)
+}
+
+// Puts a word and a number of at most three digits.
 pub fn append_number(text: &mut [u8], at: usize, word: &[u8], k: u8) -> usize
     requires { at + length word.now + 3 ≤ length text.old }
     ensures { (text.new ≡ placed text.old «at» (numbered word.now k))
         × (result ≡ at + length (numbered word.now k)) × (result ≤ at + length word.now + 3) }
 {
-    let next = append(text, at, word);
-    append_decimal(text, next, k as u32)
+    append_numbered(text, at, word, u32::from(k))
 }
 
 // Puts two words, each with a number.
@@ -85,12 +90,11 @@ pub fn append_numbers(
     append_number(text, next, second, j)
 }
 
-// Puts a word and a number below 10,000.
+// Puts a word and a number of at most four digits. Beside `append_number`, since each type of number has its own room.
 pub fn append_count(text: &mut [u8], at: usize, word: &[u8], k: u32) -> usize
     requires { at + length word.now + 4 ≤ length text.old }
     ensures { (text.new ≡ placed text.old «at» (numbered word.now k))
         × (result ≡ at + length (numbered word.now k)) × (result ≤ at + length word.now + 4) }
 {
-    let next = append(text, at, word);
-    append_decimal(text, next, k)
+    append_numbered(text, at, word, k)
 }

@@ -2,16 +2,18 @@
 // and its kinds of case are described in reference/README.md; session_vectors runs the sessions' calls.
 #![tactic(auto)]
 
-use cases::Outcome;
+use cases::{Case, FILE, Kind, RECORD, SYSTEM, run_cases};
+use files::read_input;
+use slices::zeros;
 
 fn main(rt: HostRuntime) {
-    let mut file = cases::file_buffer();
-    let length = files::read_input(&rt, &mut file);
-    let mut system = cases::system_buffer();
-    let mut a = cases::record_buffer();
-    let mut b = cases::record_buffer();
-    let mut c = cases::record_buffer();
-    let mut d = cases::record_buffer();
+    let mut file = zeros::<FILE>();
+    let length = read_input(&rt, &mut file);
+    let mut system = zeros::<SYSTEM>();
+    let mut a = zeros::<RECORD>();
+    let mut b = zeros::<RECORD>();
+    let mut c = zeros::<RECORD>();
+    let mut d = zeros::<RECORD>();
     run(
         &rt,
         &file[..length],
@@ -23,7 +25,6 @@ fn main(rt: HostRuntime) {
     );
 }
 
-// Runs each case in turn. A position that does not move on ends the run.
 fn run<R: Print>(
     rt: &R,
     file: &[u8],
@@ -33,38 +34,28 @@ fn run<R: Print>(
     c: &mut [u8],
     d: &mut [u8],
 ) {
-    let mut state = cases::begin(rt, file);
-    let mut at = state.at;
-    while at < file.len() {
-        let outcome = run_case(file, at, system, a, b, c, d);
-        state = cases::after(rt, file, state, outcome);
-        let next = state.at;
-        if next <= at {
-            return;
-        }
-        at = next;
-    }
+    run_cases(rt, file, |case| run_case(case, system, a, b, c, d));
 }
 
-// Runs the case at `at` by its kind. A case of a kind that no call has, or a session's, is malformed.
+// Runs a case by its kind. One that is a session's or a book's is malformed.
 fn run_case(
-    file: &[u8],
-    at: usize,
+    case: Case,
     system: &mut [u8],
     a: &mut [u8],
     b: &mut [u8],
     c: &mut [u8],
     d: &mut [u8],
-) -> Outcome {
-    let kind = cases::head_at(file, at).kind;
-    match kind {
-        0..=2 => system_cases::system_case(file, at, system),
-        3 => sha256_cases::sha256_case(file, at, a),
-        4..=7 => round_cases::round_case(file, at, system),
-        8 => simulator_cases::simulator_case(file, at, system),
-        9 | 10 => record_cases::record_case(file, at, a, b, c, d),
-        11 => report_cases::report_case(file, at, a),
-        22 | 23 => audit_cases::audit_case(file, at, system, a, b, c, d),
-        _ => cases::malformed(),
+) -> Option<bool> {
+    match case.kind {
+        Kind::CheckSystem | Kind::Evaluate | Kind::Polar => system_cases::system_case(case, system),
+        Kind::Digest => sha256_cases::sha256_case(case, a),
+        Kind::Commit | Kind::Answer | Kind::Reply | Kind::Judge => {
+            round_cases::round_case(case, system)
+        }
+        Kind::Simulate => simulator_cases::simulator_case(case, system),
+        Kind::ReadRecord | Kind::WriteRecord => record_cases::record_case(case, a, b, c, d),
+        Kind::Report => report_cases::report_case(case, a),
+        Kind::AuditThree | Kind::AuditFive => audit_cases::audit_case(case, system, a, b, c, d),
+        _ => None,
     }
 }

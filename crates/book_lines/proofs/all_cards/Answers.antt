@@ -10,10 +10,10 @@ use Rattle.book_lines.proofs.all_cards.Goals as goal
 pub loop-card-init : goal.loop-card-init
 loop-card-init c =
     let pre = c.requires in
-    let count = ap (λ (h : Front). h.count) c.front_of-h.ensures in
+    let count = ap (λ (h : Front). h.count) c.front_of-front.ensures in
     let few = few_cards _ pre.0 in
     let size : length c.sizes_line-at.new.text ≡ 428064 = c.sizes_line-at.auto.text ∙ pre.1 in
-    (lines_start _ _ _ _ (omega arith) size c.sizes_line-at.ensures.2, omega arith, omega (arith, count, few), size)
+    (lines_start _ _ _ _ (omega arith) size c.sizes_line-at.ensures.2, omega (arith, count, few), size)
 
 pub append_card-at-requires : goal.append_card-at-requires
 append_card-at-requires c =
@@ -27,10 +27,10 @@ loop-card-preserved c =
     let inv = c.loop-card.invariant in
     let put = c.append_card-at.ensures in
     let size = c.append_card-at.auto.text in
-    (lines_step _ _ _ _ _ _ _ _ inv.0 (omega arith) (put.0, put.1) put.2, omega arith, inv.2, omega (arith, size, inv.3))
+    (lines_step _ _ _ _ _ _ _ _ inv.0 (omega arith) (put.0, put.1) put.2, inv.1, omega (arith, size, inv.2))
 
 pub returns : goal.returns
 returns c =
     let inv = c.loop-card.invariant in
     let first = c.sizes_line-at.ensures in
-    lines_end _ _ _ _ _ _ _ _ inv.0 c.front_of-h.ensures (omega arith) c.requires.1 first.0 first.1
+    lines_end _ _ _ _ _ _ _ _ inv.0 c.front_of-front.ensures (omega arith) c.requires.1 first.0 first.1

@@ -62,5 +62,5 @@ returns c =
     let place = c.offset_of.ensures.0 in
     let keys_long = c.requires.1 in
     let out-long = c.requires.2 in
-    assembled c.args.h c.args.labels.now c.args.keys.now count.result c.args.out.now one.new.out two.new.out three.new.out four.new.out _
-    (omega (arith, keys_long, out-long)) count.ensures.0 count.ensures.1 one.ensures two.ensures three.ensures.0 three.ensures.1 (place ∙ first_offset c.args.h) four.ensures
+    assembled c.args.front c.args.labels.now c.args.keys.now count.result c.args.out.now one.new.out two.new.out three.new.out four.new.out _
+    (omega (arith, keys_long, out-long)) count.ensures.0 count.ensures.1 one.ensures two.ensures three.ensures.0 three.ensures.1 (place ∙ first_offset c.args.front) four.ensures

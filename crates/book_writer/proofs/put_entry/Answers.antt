@@ -26,17 +26,11 @@ entry-put out labels s t h i place k here label offset is = ap₂ (λ (p : ℕ) 
 
 pub put-requires : goal.put-requires
 put-requires c =
-    let long = ten _ _ _ _ c.requires.0 c.requires.1 c.label_at.ensures in
+    let long = ten _ _ _ _ c.requires.0 c.requires.1 c.at.ensures in
     omega arith
 
 pub returns : goal.returns
 returns c =
-    let start = c.before.before.before.before.before.before.before.before.before.before.before.before.before.before.before in
-    let label = c.label_at in
-    let offset = c.word-offset in
-    let one = c.put in
-    let two = c.put-2 in
-    let at = c.of_cards-at.ensures.0 in
-    let long = ten _ _ _ _ start.requires.0 start.requires.1 label.ensures in
-    placed-append _ _ _ _ _ _ _ (omega arith) (omega arith) one.ensures two.ensures ∙
-    entry-put _ _ _ _ start.args.h start.args.i _ _ (omega arith) label.ensures offset.ensures.0 c.offset_of.ensures.0
+    let long = ten _ _ _ _ c.requires.0 c.requires.1 c.at.ensures in
+    placed-append _ _ _ _ _ _ _ (omega (arith, c.of_cards-at.ensures.0)) (omega arith) c.put.ensures c.put-2.ensures ∙
+    entry-put _ _ _ _ c.args.front c.args.i _ _ (omega (arith, c.of_cards-at.ensures.0)) c.at.ensures c.word-offset.ensures.0 c.offset_of.ensures.0

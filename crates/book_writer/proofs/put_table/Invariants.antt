@@ -1,10 +1,6 @@
 -- The invariant: the first i entries stand behind the first seven bytes. Assumes nothing.
-use Prim.Native.Nat.{◌-◌, ◌≤◌}
 use Rattle.book_writer.proofs.Table.{TableTo}
 use Rattle.book_writer.proofs.put_table.Given as goal
 
 abbrev pub invariant-loop-i : goal.invariant-loop-i
-invariant-loop-i l = TableTo l.initial.out l.h l.labels l.out l.i × (l.i ≤ l.h.count)
-
-abbrev pub decreases-loop-i : goal.decreases-loop-i
-decreases-loop-i l = l.h.count - l.i
+invariant-loop-i l = TableTo l.initial.out l.front l.labels l.out l.i

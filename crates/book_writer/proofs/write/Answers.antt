@@ -1,18 +1,17 @@
--- One branch: what is refused stays, else the book is written. Assumes nothing.
-use mathlib.Core.Path.{refl, sym, ◌∙◌}
-use Rattle.refusal.proofs.Refusals.{kept_refused, kept_accepted}
+-- What is refused stays, else the book is written. Assumes nothing.
+use mathlib.Core.Path.{sym}
+use Rattle.std.proofs.Common.{rules}
+use Rattle.book_form.proofs.Loops.{refused_call, done_call}
 use Rattle.book_writer.proofs.BookTrip.{taken}
 use Rattle.book_writer.proofs.write.Goals as goal
 
-pub returns-then-refused-ne0 : goal.returns-then-refused-ne0
-returns-then-refused-ne0 c =
-    (c.write_refusal-refused.ensures, sym (kept_refused _ _ _ c.if-refused-ne0.true))
+pub returns-in_err-check_call : goal.returns-in_err-check_call
+returns-in_err-check_call c = refused_call _ _ _ _ _ (search rules) c.in_err-check_call.ensures
 
 pub put_book-requires : goal.put_book-requires
 put_book-requires c =
-    let t = taken _ _ (sym c.write_refusal-refused.ensures ∙ c.if-refused-ne0.false) in
+    let t = taken _ _ (sym c.in_ok-check_call.ensures) in
     (t.valid.labels_length, t.valid.keys_length, t.exact)
 
 pub returns : goal.returns
-returns c =
-    (sym c.if-refused-ne0.false ∙ c.write_refusal-refused.ensures, c.put_book.ensures ∙ sym (kept_accepted 0 _ _ refl))
+returns c = done_call _ _ _ _ c.in_ok-check_call.ensures c.put_book.ensures

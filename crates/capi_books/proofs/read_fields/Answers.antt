@@ -1,40 +1,34 @@
 -- The output's length, then the book; what is refused stays, else its first seven bytes are written. Assumes nothing.
-use mathlib.Core.Path.{refl, sym, ◌∙◌}
+use mathlib.Core.Path.{◌≡◌}
 use native.Mathlib.Omega.{arith}
-use lib.ListN.{length}
-use Rattle.slices.proofs.Parts.{placed_whole}
-use Rattle.refusal.proofs.Refusals.{kept_refused, kept_accepted}
-use Rattle.refusal.proofs.Chains.{ends_here, goes_on}
+use lib.ListN.{take}
+use lib.Seq.{length-take-le}
+use Rattle.std.proofs.Common.{rules}
+use Rattle.refusal.proofs.Answers.{goes_on_chain}
+use Rattle.refusal.proofs.Chains.{ends_here}
+use Rattle.book_form.proofs.Loops.{some_number, refused_call, done_call}
 use Rattle.capi_books.specs.Numbers.{book_fields_refusal}
 use Rattle.capi_books.proofs.Outputs.{fits, seven}
 use Rattle.capi_books.proofs.read_fields.Goals as goal
 
-pub returns-then-of_length-ne0 : goal.returns-then-of_length-ne0
+pub returns-in_err-require : goal.returns-in_err-require
 unfolding book_fields_refusal
-returns-then-of_length-ne0 c =
-    (ends_here _ _ _ c.unless-of_length.ensures c.if-of_length-ne0.true, sym (kept_refused _ _ _ c.if-of_length-ne0.true))
+returns-in_err-require c = refused_call _ _ _ _ _ (search rules) (ends_here _ _ _ c.in_err-require.ensures (some_number _))
 
-pub returns-then-refused-ne0 : goal.returns-then-refused-ne0
+pub returns-in_err-read : goal.returns-in_err-read
 unfolding book_fields_refusal
-returns-then-refused-ne0 c = (
-  goes_on _ _ _ _ c.unless-of_length.ensures c.if-of_length-ne0.false (simp (c.refusal_of-refused.ensures, c.read.ensures.1)),
-  sym (kept_refused _ _ _ c.if-refused-ne0.true),
-)
+returns-in_err-read c = refused_call _ _ _ _ _ (search rules) (goes_on_chain _ _ _ c.in_ok-require.ensures c.in_err-read.ensures.refusal)
 
-pub put-requires : goal.put-requires
-unfolding book_fields_refusal
-put-requires c =
-    let room = fits (length c.args.fields.now) 7 _ c.unless-of_length.ensures c.if-of_length-ne0.false in
-    let long = seven _ _ _ (c.refusal_of-refused.ensures ∙ c.read.ensures.1) c.if-refused-ne0.false c.part.ensures in
-    omega (arith, room, long)
+pub slice_bounds-first-end : goal.slice_bounds-first-end
+slice_bounds-first-end c = omega (arith, length-take-le 7 c.args.book.now (seven _ c.in_ok-read.ensures.refusal))
+
+pub copy_from_slice-requires : goal.copy_from_slice-requires
+copy_from_slice-requires c =
+    let long = length-take-le 7 c.args.book.now (seven _ c.in_ok-read.ensures.refusal) in
+    omega (arith, long, fits _ 7 c.in_ok-require.ensures)
 
 pub returns : goal.returns
 unfolding book_fields_refusal
 returns c =
-    let of_length = c.unless-of_length.ensures in
-    let right = c.if-of_length-ne0.false in
-    let number = c.refusal_of-refused.ensures ∙ c.read.ensures.1 in
-    let none = c.if-refused-ne0.false in
-    let room = fits (length c.args.fields.now) 7 _ of_length right in
-    let long = seven _ _ _ number none c.part.ensures in
-    (goes_on _ _ _ _ of_length right (sym none ∙ number), placed_whole _ _ _ (long ∙ sym room) c.put.ensures ∙ c.part.ensures ∙ sym (kept_accepted 0 _ _ refl))
+    let put : c.copy_from_slice.new.self ≡ take 7 c.args.book.now = search rules in
+    done_call _ _ _ _ (goes_on_chain _ _ _ c.in_ok-require.ensures c.in_ok-read.ensures.refusal) put

@@ -1,10 +1,9 @@
--- Each session moves on, and there are no more of them than bytes. Assumes nothing.
-use Prim.Native.Nat.{◌+◌, ◌-◌, ◌≤◌}
-use lib.ListN.{length}
+-- Each session moves on, and there are no more of them than bytes.
+use Rattle.std.proofs.Common.{◌+◌, ◌≤◌, length}
 use Rattle.demo.proofs.play_all.Given as goal
 
-abbrev pub invariant-loop-at : goal.invariant-loop-at
-invariant-loop-at g l = l.number ≤ l.at + 1
+abbrev pub invariant-sessions : goal.invariant-sessions
+invariant-sessions g l = l.number + length l.rest ≤ length l.input + 1
 
-abbrev pub decreases-loop-at : goal.decreases-loop-at
-decreases-loop-at g l = length l.input - l.at
+abbrev pub decreases-sessions : goal.decreases-sessions
+decreases-sessions g l = length l.rest

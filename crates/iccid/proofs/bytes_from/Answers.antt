@@ -1,8 +1,10 @@
--- The callees' answers, put together. Assumes nothing.
-use Rattle.slices.specs.Slices.{tabulate}
+-- The bytes before i are those of their characters. Assumes nothing.
+use native.Mathlib.Omega.{arith}
+use Rattle.slices.proofs.Tabulate.{tabulate_of}
+use Rattle.iccid.specs.Iccid.{byte_from}
 use Rattle.iccid.proofs.bytes_from.Goals as goal
 
 pub returns : goal.returns
-unfolding tabulate
 returns c =
-    simp (c.byte_from-10.ensures, c.byte_from-9.ensures, c.byte_from-8.ensures, c.byte_from-7.ensures, c.byte_from-6.ensures, c.byte_from-5.ensures, c.byte_from-4.ensures, c.byte_from-3.ensures, c.byte_from-2.ensures, c.byte_from.ensures)
+    let loop = c.loop-i in
+    tabulate_of loop.bytes 10 (byte_from c.args.iccid.now) loop.invariant.0 (λ k h. loop.invariant.1 k (omega arith))

@@ -1,11 +1,9 @@
--- `hash` meets its contract. The loop's invariant: the first i bytes of the array are those of the hash value's words.
-use Prim.Native.Nat.{◌-◌}
-use Rattle.slices.proofs.Tabulate.{Filled}
-use Rattle.sha256.proofs.DigestBytes.{joined_byte}
+-- `hash` meets its contract. The loop's invariant: the front of the array holds the bytes of the first i words of the hash value.
+use mathlib.Core.Path.{◌≡◌}
+use Prim.Native.Nat.{◌*◌}
+use lib.ListN.{length, take}
+use Rattle.sha256.specs.Sha256.{joined}
 use Rattle.sha256.proofs.hash.Given as goal
 
 abbrev pub invariant-loop-i : goal.invariant-loop-i
-invariant-loop-i l = Filled (joined_byte l.w) 32 32 l.out l.i
-
-abbrev pub decreases-loop-i : goal.decreases-loop-i
-decreases-loop-i l = 32 - l.i
+invariant-loop-i l = (length l.out ≡ 32) × (take (4 * l.i) l.out ≡ joined (take l.i l.w))

@@ -8,10 +8,6 @@ use Rattle.sha256.proofs.PaddedMessage.{block_count-pad, length-block}
 use Rattle.sha256.proofs.HashValue.{hash_value_more}
 use Rattle.sha256.proofs.last_value.Goals as goal
 
-pub loop-i-init : goal.loop-i-init
-loop-i-init c =
-    (omega (arith, block_count-pad c.args.message.now), c.whole_blocks-s.ensures)
-
 pub padded_block-b-requires : goal.padded_block-b-requires
 padded_block-b-requires c =
     omega (arith, block_count-pad c.args.message.now)
@@ -24,10 +20,10 @@ hash_block-s-requires c =
 pub loop-i-preserved : goal.loop-i-preserved
 loop-i-preserved c =
     let m = c.args.message.now in
-    (omega (arith, block_count-pad m), hash_value_more (pad m) c.padded_block-b.result c.loop-i.i (variables c.loop-i.s) (variables c.hash_block-s.result) c.padded_block-b.ensures c.loop-i.invariant.1 c.hash_block-s.ensures)
+    hash_value_more (pad m) c.padded_block-b.result c.loop-i.i (variables c.loop-i.s) (variables c.hash_block-s.result) c.padded_block-b.ensures c.loop-i.invariant c.hash_block-s.ensures
 
 pub returns : goal.returns
 returns c =
     let m = c.args.message.now in
     let at_end : c.loop-i.i ≡ block_count (pad m) = omega (arith, block_count-pad m) in
-    rw at_end at c.loop-i.invariant.1
+    rw at_end at c.loop-i.invariant

@@ -5,4 +5,4 @@ use Rattle.simulator.proofs.vectors_from.Goals as goal
 pub returns : goal.returns
 unfolding vectors_from
 returns c =
-    simp (c.simulated.ensures, c.from_slice.ensures, c.slot-s.ensures, c.byte_at.ensures)
+    simp (c.simulated.ensures, c.from_slice.ensures, c.slot-s.ensures, c.n.ensures)

@@ -1,19 +1,16 @@
--- The number behind the word. Assumes nothing.
+-- The digits have room. Assumes nothing.
 use native.Mathlib.Omega.{arith}
-use Rattle.text.specs.Text.{numbered}
+use lib.ListN.{length-append}
+use Rattle.text.specs.Text.{decimal, numbered}
 use Rattle.text.proofs.Decimal.{decimal_short}
-use Rattle.text.proofs.Appending.{appended_both}
 use Rattle.text.proofs.append_number.Goals as goal
 
-pub append_decimal-requires : goal.append_decimal-requires
+pub append_numbered-requires : goal.append_numbered-requires
 unfolding numbered
-append_decimal-requires c =
-    omega (arith, decimal_short c.args.k (omega arith))
+append_numbered-requires c = rw c.from.ensures (omega (arith, length-append c.args.word.now (decimal c.args.k), decimal_short c.args.k (omega arith)))
 
 pub returns : goal.returns
 unfolding numbered
 returns c =
-    let word = c.append-next.ensures in
-    let number = c.append_decimal.ensures in
-    let put = appended_both _ _ _ _ (omega arith) word (number.0, number.1) in
-    (put.0, put.1, omega (arith, decimal_short c.args.k (omega arith)))
+    let put = rw c.from.ensures at c.append_numbered.ensures in
+    (put.0, put.1, omega (arith, length-append c.args.word.now (decimal c.args.k), decimal_short c.args.k (omega arith)))

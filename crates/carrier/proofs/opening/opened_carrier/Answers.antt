@@ -5,4 +5,4 @@ use Rattle.carrier.proofs.opening.opened_carrier.Goals as goal
 pub returns : goal.returns
 unfolding opened_carrier
 returns c =
-    simp (c.no_turn.ensures, c.held_commitments.ensures, c.from_slice.ensures, c.byte_at-3.ensures, c.byte_at-2.ensures, c.byte_at.ensures, c.scheme_of-passes.ensures)
+    simp (c.no_turn-turn.ensures, c.held_commitments-commitments.ensures, c.from_slice-v.ensures, c.m.ensures, c.n.ensures, c.q.ensures, c.scheme_of.ensures)

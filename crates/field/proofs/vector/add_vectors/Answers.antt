@@ -1,9 +1,10 @@
 -- The sum of two vectors, place by place. Assumes nothing.
-use Rattle.field.specs.Operation.{operation}
+use Rattle.std.proofs.Common.{rules}
 use Rattle.field.specs.Vector.{add_v}
+use Rattle.field.proofs.Vectors.{combined_vector}
 use Rattle.field.proofs.vector.add_vectors.Goals as goal
 
 pub returns : goal.returns
-unfolding add_v operation
+unfolding add_v
 returns c =
-    c.each.ensures
+    combined_vector _ _ _ _ _ _ c.each.ensures (λ i r k h. search rules)

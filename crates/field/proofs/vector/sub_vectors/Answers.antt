@@ -1,9 +1,10 @@
 -- The difference of two vectors, place by place. Assumes nothing.
-use Rattle.field.specs.Operation.{operation}
+use Rattle.std.proofs.Common.{rules}
 use Rattle.field.specs.Vector.{sub_v}
+use Rattle.field.proofs.Vectors.{combined_vector}
 use Rattle.field.proofs.vector.sub_vectors.Goals as goal
 
 pub returns : goal.returns
-unfolding sub_v operation
+unfolding sub_v
 returns c =
-    c.each.ensures
+    combined_vector _ _ _ _ _ _ c.each.ensures (λ i r k h. search rules)

@@ -2,22 +2,14 @@
 use mathlib.Core.Path.{refl}
 use native.Mathlib.Omega.{arith}
 use lib.ListN.{length-set}
-use Rattle.slices.proofs.Tabulate.{fill_start, fill_step, fill_end}
+use Rattle.slices.proofs.Tabulate.{fill_start, fill_step}
 use Rattle.rows.proofs.combination.blend_rows.Goals as goal
 
 pub loop-place-init : goal.loop-place-init
 loop-place-init c =
-    (fill_start _ _, omega arith, refl)
+    (fill_start _ _, refl)
 
 pub loop-place-preserved : goal.loop-place-preserved
 loop-place-preserved c =
     let at = c.loop-place in
-    (fill_step _ _ _ at.place _ at.invariant.0 (omega arith) c.blend.ensures, omega arith, simp length-set at.invariant.2)
-
-pub shape_of-out : goal.shape_of-out
-shape_of-out c =
-    c.loop-place.invariant.2
-
-pub returns : goal.returns
-returns c =
-    fill_end _ _ _ c.loop-place.place c.loop-place.invariant.0 (omega arith)
+    (fill_step _ _ _ at.place _ at.invariant.0 (omega arith) c.blend.ensures, simp length-set at.invariant.1)

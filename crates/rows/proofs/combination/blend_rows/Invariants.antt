@@ -1,5 +1,4 @@
 -- The loop's invariant: the places before `place` are filled, the others are as they were. Assumes nothing.
-use Prim.Native.Nat.{◌≤◌, ◌-◌}
 use mathlib.Core.Path.{◌≡◌}
 use mathlib.Core.List.{◌++◌}
 use lib.ListN.{length, drop}
@@ -10,7 +9,4 @@ use Rattle.rows.proofs.combination.blend_rows.Given as goal
 abbrev pub invariant-loop-place : goal.invariant-loop-place
 invariant-loop-place l =
     (l.out ≡ tabulate l.place (λ k. (ops l.q).add ((ops l.q).mul l.a (l.x ! k)) ((ops l.q).mul l.b (l.y ! k))) ++ drop l.place l.initial.out) ×
-    (l.place ≤ length l.initial.out) × (length l.out ≡ length l.initial.out)
-
-abbrev pub decreases-loop-place : goal.decreases-loop-place
-decreases-loop-place l = length l.initial.out - l.place
+    (length l.out ≡ length l.initial.out)

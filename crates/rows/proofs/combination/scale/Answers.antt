@@ -2,22 +2,14 @@
 use mathlib.Core.Path.{refl}
 use native.Mathlib.Omega.{arith}
 use lib.ListN.{length-set}
-use Rattle.slices.proofs.Tabulate.{fill_start, fill_step, fill_end}
+use Rattle.slices.proofs.Tabulate.{fill_start, fill_step}
 use Rattle.rows.proofs.combination.scale.Goals as goal
 
 pub loop-i-init : goal.loop-i-init
 loop-i-init c =
-    (omega arith, refl, fill_start _ _)
+    (refl, fill_start _ _)
 
 pub loop-i-preserved : goal.loop-i-preserved
 loop-i-preserved c =
     let at = c.loop-i in
-    (omega arith, simp length-set at.invariant.1, fill_step _ _ _ at.i _ at.invariant.2 (omega arith) c.mul.ensures)
-
-pub shape_of-out : goal.shape_of-out
-shape_of-out c =
-    c.loop-i.invariant.1
-
-pub returns : goal.returns
-returns c =
-    fill_end _ _ _ c.loop-i.i c.loop-i.invariant.2 (omega arith)
+    (simp length-set at.invariant.0, fill_step _ _ _ at.i _ at.invariant.1 (omega arith) c.mul.ensures)

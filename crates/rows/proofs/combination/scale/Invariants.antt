@@ -1,5 +1,4 @@
 -- The loop's invariant: the first i places are filled, the others are as they were. Assumes nothing.
-use Prim.Native.Nat.{◌≤◌, ◌-◌}
 use mathlib.Core.Path.{◌≡◌}
 use mathlib.Core.List.{◌++◌}
 use lib.ListN.{length, drop}
@@ -9,8 +8,5 @@ use Rattle.rows.proofs.combination.scale.Given as goal
 
 abbrev pub invariant-loop-i : goal.invariant-loop-i
 invariant-loop-i l =
-    (l.i ≤ length l.initial.out) × (length l.out ≡ length l.initial.out) ×
+    (length l.out ≡ length l.initial.out) ×
     (l.out ≡ tabulate l.i (λ k. (ops l.q).mul l.a (l.x ! k)) ++ drop l.i l.initial.out)
-
-abbrev pub decreases-loop-i : goal.decreases-loop-i
-decreases-loop-i l = length l.initial.out - l.i

@@ -11,14 +11,14 @@ use Rattle.rows.proofs.sums.add_products.Goals as goal
 pub loop-k-init : goal.loop-k-init
 loop-k-init c =
     let none = products_start c.args.a.now c.args.b.now in
-    (omega arith, c.requires.0, omega arith, omega (arith, none))
+    (c.requires.0, omega arith, omega (arith, none))
 
 pub loop-k-preserved : goal.loop-k-preserved
 loop-k-preserved c =
     let at = c.loop-k in
-    let product = c.wide.result * c.wide-in-loop-k.result in
+    let product = c.from.result * c.from-in-loop-k.result in
     let old = slice_index_or at.sums at.k 0 in
-    let more = sum_by-set (λ (x : ℕ). x) at.sums at.k (old + product) 0 (omega (arith, at.invariant.1)) in
-    let step = products_step c.args.a.now c.args.b.now at.k _ _ _ refl c.wide.ensures.0 c.wide-in-loop-k.ensures.0 in
-    let small = byte_product _ _ c.wide.ensures.1 c.wide-in-loop-k.ensures.1 in
-    (omega arith, length-set _ _ _ ∙ at.invariant.1, omega (arith, more, small, at.invariant.2), omega (arith, more, step, at.invariant.3))
+    let more = sum_by-set (λ (x : ℕ). x) at.sums at.k (old + product) 0 (omega (arith, at.invariant.0)) in
+    let step = products_step c.args.a.now c.args.b.now at.k _ _ _ refl c.from.ensures c.from-in-loop-k.ensures in
+    let small = byte_product c.from.result c.from-in-loop-k.result (omega (arith, c.from.ensures)) (omega (arith, c.from-in-loop-k.ensures)) in
+    (length-set _ _ _ ∙ at.invariant.0, omega (arith, more, small, at.invariant.1), omega (arith, more, step, at.invariant.2))

@@ -1,5 +1,5 @@
 -- The loop's invariant: the sums have grown by the first k products, each at most 255 times 255. Assumes nothing.
-use Prim.Native.Nat.{◌+◌, ◌≤◌, ◌-◌, ◌*◌}
+use Prim.Native.Nat.{◌+◌, ◌≤◌, ◌*◌}
 use mathlib.Core.Path.{◌≡◌}
 use lib.ListN.{length}
 use Rattle.std.specs.Prelude.{sum}
@@ -8,8 +8,5 @@ use Rattle.rows.proofs.sums.add_products.Given as goal
 
 abbrev pub invariant-loop-k : goal.invariant-loop-k
 invariant-loop-k l =
-    (l.k ≤ 16) × (length l.sums ≡ 16) × (sum l.sums ≤ sum l.initial.sums + 65025 * l.k) ×
+    (length l.sums ≡ 16) × (sum l.sums ≤ sum l.initial.sums + 65025 * l.k) ×
     (sum l.sums ≡ sum l.initial.sums + products l.a l.b l.k)
-
-abbrev pub decreases-loop-k : goal.decreases-loop-k
-decreases-loop-k l = 16 - l.k

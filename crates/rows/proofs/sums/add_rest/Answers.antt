@@ -7,11 +7,11 @@ use Rattle.rows.proofs.sums.add_rest.Goals as goal
 
 pub loop-i-init : goal.loop-i-init
 loop-i-init c =
-    (omega arith, omega arith, omega (arith, products_start c.args.a.now c.args.b.now))
+    (omega arith, omega (arith, products_start c.args.a.now c.args.b.now))
 
 pub loop-i-preserved : goal.loop-i-preserved
 loop-i-preserved c =
     let at = c.loop-i in
-    let step = products_step c.args.a.now c.args.b.now at.i _ _ _ refl c.wide.ensures.0 c.wide-in-loop-i.ensures.0 in
-    let small = byte_product _ _ c.wide.ensures.1 c.wide-in-loop-i.ensures.1 in
-    (omega arith, omega (arith, small, at.invariant.1), omega (arith, step, at.invariant.2))
+    let step = products_step c.args.a.now c.args.b.now at.i _ _ _ refl c.from.ensures c.from-in-loop-i.ensures in
+    let small = byte_product c.from.result c.from-in-loop-i.result (omega (arith, c.from.ensures)) (omega (arith, c.from-in-loop-i.ensures)) in
+    (omega (arith, small, at.invariant.0), omega (arith, step, at.invariant.1))

@@ -1,7 +1,5 @@
 -- Each arm knows the byte, and the last that it is none of them. Assumes nothing.
-use mathlib.Core.Path.{refl}
 use borrow.Author.Rules.{rules}
-use borrow.Author.Tests.{ne_eqb}
 use Rattle.refusal.specs.Refusal.{unless}
 use Rattle.scheme.specs.Scheme.{byte_of, scheme_of, is_scheme}
 use Rattle.scheme.proofs.SchemeTryFromU8.try_from.Goals as goal

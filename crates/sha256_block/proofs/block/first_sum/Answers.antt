@@ -1,8 +1,9 @@
 -- `block::first_sum` meets its contract: the sums are those of T1.
+use Rattle.sha256_block.specs.Words.{◌⊞◌}
 use Rattle.sha256_block.specs.Block.{T1}
 use Rattle.sha256_block.proofs.block.first_sum.Goals as goal
 
 pub returns : goal.returns
-unfolding T1
+unfolding T1 ◌⊞◌
 returns c =
-    simp (c.add-4.ensures, c.add-3.ensures, c.add-2.ensures, c.choose.ensures, c.add.ensures, c.upper_sigma1.ensures)
+    simp (c.choose.ensures, c.upper_sigma1.ensures)

@@ -5,4 +5,4 @@ use Rattle.sha256_block.proofs.block.word_at.Goals as goal
 pub returns : goal.returns
 unfolding word_at
 returns c =
-    simp (c.wide-b3.ensures.0, c.wide-b2.ensures.0, c.wide-b1.ensures.0, c.wide-b0.ensures.0)
+    c.from_be_bytes.ensures

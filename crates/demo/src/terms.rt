@@ -1,0 +1,49 @@
+// What a session is about.
+ghost use Rattle.std.specs.Prelude.{◌≤◌};
+
+use scheme::{Scheme, has_alpha, lent_length, of_rounds, scheme_of};
+use slices::byte_at;
+
+// What both ends are opened with, v and s aside.
+#[derive(Clone, Copy)]
+pub struct Terms {
+    pub scheme: u8,
+    pub rounds: u8,
+    pub q: u8,
+    pub n: u8,
+    pub m: u8,
+}
+
+impl Terms {
+    // The session's own first two bytes, and the system's sizes.
+    pub fn of(system: &[u8], bytes: &[u8]) -> Terms {
+        Terms {
+            scheme: byte_at(bytes, 0),
+            rounds: byte_at(bytes, 1),
+            q: byte_at(system, 0),
+            n: byte_at(system, 1),
+            m: byte_at(system, 2),
+        }
+    }
+
+    // The scheme of the terms' byte; both openings refuse a byte that is none's.
+    pub fn passes(self) -> Scheme {
+        scheme_of(self.scheme)
+    }
+
+    // The bytes of a round in the input: what is lent, α in scheme 5, the challenge.
+    pub fn round_length(self) -> usize
+        ensures { result ≤ 863 }
+    {
+        let asked = if has_alpha(self.passes()) { 2 } else { 1 };
+        lent_length(self.passes(), self.n, self.m) + asked
+    }
+
+    // The bytes of a session in the input.
+    pub fn session_length(self) -> usize
+        ensures { (2 ≤ result) × (result ≤ 1000000) }
+    {
+        let rounds = of_rounds(self.rounds, self.round_length());
+        2 + usize::from(self.m) + usize::from(self.n) + rounds
+    }
+}
