@@ -1,6 +1,7 @@
 -- What is written is read back, and what is read is what the writer makes of it. Assumes nothing.
 use Prim.Native.Nat.{ℕ}
-use mathlib.Core.Path.{◌≡◌, refl, ap, ◌∙◌}
+use mathlib.Core.Path.{◌≡◌, refl, sym, ap, ◌∙◌}
+use mathlib.Core.Logic.{◌↔◌}
 use mathlib.Core.Bool.{Bool, true, false}
 use mathlib.Core.List.{List}
 use native.Mathlib.Omega.{arith}
@@ -86,12 +87,16 @@ valid_taken scheme f is v =
 -- ---- "Reading a written record gives its fields back", and the byte that was given for the scheme
 
 pub read_written : (scheme : ℕ) (f : Fields) (out : ℕ) → write_refusal scheme f out ≡ 0 →
-    ((answer : Result Layout Refusal) → Reading (written f) answer → answer ≡ Ok (layout_of f.header)) × (fields_in (written f) ≡ f) × (f.header.scheme ≡ scheme_of scheme → written f ! 1 ≡ scheme)
+    ((answer : Result Layout Refusal) → Reading (written f) answer ↔ (answer ≡ Ok (layout_of f.header))) × (fields_in (written f) ≡ f) × (f.header.scheme ≡ scheme_of scheme → written f ! 1 ≡ scheme)
 unfolding written head is_scheme
 read_written scheme f out none =
     let t = taken scheme f out none in
-    let v = t.valid in (
-      λ answer reading. reading_good (written f) answer reading (written_accepted f v) ∙ ap (λ h. Ok (layout_of h)) (header_written f),
+    let v = t.valid in
+    let none_read = written_accepted f v in (
+      λ answer. (
+        λ reading. reading_good (written f) answer reading none_read ∙ ap (λ h. Ok (layout_of h)) (header_written f),
+        λ is. rw is (sym none_read, sym (ap layout_of (header_written f))),
+      ),
       fields_written f v,
       λ is. ap byte_of is ∙ eqb-true (byte_of (scheme_of scheme)) scheme t.scheme_value,
     )
