@@ -10,6 +10,7 @@ use slices::byte_at;
 use system::System;
 
 // Whether a round of the domain's scheme is accepted; `turn` is α, t1 and e1 of five passes, and is not looked at in three.
+#[tactic(auto, unfolding(crate::specs::Messages::accepts, crate::specs::Messages::openings))]
 pub fn judge(
     system: &System,
     d: Domain,

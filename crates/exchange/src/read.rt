@@ -7,6 +7,7 @@ use round::{Middle, ReplyFive, ReplyThree, Rhos};
 use slices::bytes32;
 
 // t1 and e1, behind α.
+#[tactic(auto, unfolding(crate::specs::Messages::middle_in))]
 pub fn read_middle(s: &[u8], n: u8, m: u8) -> Middle
     ensures { result ≡ middle_in n m s.now }
 {
@@ -17,6 +18,7 @@ pub fn read_middle(s: &[u8], n: u8, m: u8) -> Middle
 }
 
 // A reply of three passes.
+#[tactic(auto, unfolding(crate::specs::Messages::reply_three_in, crate::specs::Messages::bytes_at))]
 pub fn read_reply_three(s: &[u8], n: u8, m: u8) -> ReplyThree
     ensures { result ≡ reply_three_in n m s.now }
 {
@@ -33,6 +35,7 @@ pub fn read_reply_three(s: &[u8], n: u8, m: u8) -> ReplyThree
 }
 
 // A reply of five passes.
+#[tactic(auto, unfolding(crate::specs::Messages::reply_five_in, crate::specs::Messages::bytes_at))]
 pub fn read_reply_five(s: &[u8], n: u8) -> ReplyFive
     ensures { result ≡ reply_five_in n s.now }
 {
@@ -51,6 +54,7 @@ pub struct Lent {
     pub rhos: Rhos,
 }
 
+#[tactic(auto, unfolding(crate::specs::Messages::lent_in, crate::specs::Messages::bytes_at))]
 pub fn read_lent(s: &[u8], n: u8, m: u8) -> Lent
     ensures { result ≡ lent_in n m s.now }
 {

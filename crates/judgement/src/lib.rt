@@ -17,6 +17,7 @@ use slices::bytes32;
 use system::System;
 
 // Whether a string hashes to commitment k.
+#[tactic(auto, using(slices::proofs::Sameness::pointwise_same), unfolding(round::specs::Openings::commitment_at, round::specs::Openings::bytes_at))]
 fn opens(t: Text, commitments: &[u8], k: u8) -> bool
     requires { Room 0 t }
     ensures { result ≡ same (sha256 (content t)) (commitment_at commitments.now k) }

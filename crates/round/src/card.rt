@@ -1,4 +1,7 @@
 // The vectors of a round as the card and the simulator form them.
+//
+// s, r0, t0 and e0 are arguments of their own: the card holds them as fields beside others, so a struct of them would be filled
+// before each call, no plainer.
 ghost use Rattle.std.specs.Prelude.{◌≡◌};
 ghost use Rattle.field.specs.Ops.{ops};
 ghost use Rattle.field.specs.Vector.{sub_v};
@@ -13,6 +16,7 @@ use polynomials::{f, g};
 use system::System;
 
 // r1 = s - r0.
+#[tactic(auto, unfolding(protocol::specs::Protocols::r1_of))]
 pub fn r1_of(q: u8, n: u8, s: [u8; 96], r0: [u8; 96]) -> [u8; 96]
     ensures { result ≡ r1_of (sub_v (ops q) n) s r0 }
 {
@@ -20,6 +24,7 @@ pub fn r1_of(q: u8, n: u8, s: [u8; 96], r0: [u8; 96]) -> [u8; 96]
 }
 
 // t1 = r0 - t0, of three passes.
+#[tactic(auto, unfolding(protocol::specs::Protocols::t1_of))]
 pub fn t1_of(q: u8, n: u8, r0: [u8; 96], t0: [u8; 96]) -> [u8; 96]
     ensures { result ≡ t1_of (sub_v (ops q) n) r0 t0 }
 {
@@ -27,6 +32,7 @@ pub fn t1_of(q: u8, n: u8, r0: [u8; 96], t0: [u8; 96]) -> [u8; 96]
 }
 
 // Three passes: r1, t1, e1 and c0's second vector.
+#[tactic(auto, unfolding(protocol::specs::Protocols::card_three, protocol::specs::Protocols::r1_of, protocol::specs::Protocols::t1_of, protocol::specs::Protocols::e1_of, protocol::specs::Protocols::masked, protocol::specs::Rounds::map_of))]
 pub fn card_three(system: &System, s: [u8; 96], r0: [u8; 96], t0: [u8; 96], e0: [u8; 96]) -> Vectors
     ensures { vectors_of result ≡ card_three (map_of system.now.bytes.now) s r0 t0 e0 }
 {
@@ -46,6 +52,7 @@ pub fn card_three(system: &System, s: [u8; 96], r0: [u8; 96], t0: [u8; 96], e0: 
 }
 
 // Five passes: t1 and e1 for α.
+#[tactic(auto, unfolding(crate::specs::FivePass::middle_five, protocol::specs::Protocols::t1_by, protocol::specs::Protocols::e1_by, protocol::specs::Rounds::map_of))]
 pub fn middle(system: &System, alpha: u8, r0: [u8; 96], t0: [u8; 96], e0: [u8; 96]) -> Middle
     ensures { result ≡ middle_five system.now.bytes.now alpha r0 t0 e0 }
 {
@@ -59,6 +66,7 @@ pub fn middle(system: &System, alpha: u8, r0: [u8; 96], t0: [u8; 96], e0: [u8; 9
 }
 
 // v - F(r1) - G(t1,r1) - e1, with which challenge 1 opens c0.
+#[tactic(auto, unfolding(protocol::specs::Protocols::unmasked, protocol::specs::Rounds::map_of))]
 pub fn unmask(system: &System, v: [u8; 96], r1: [u8; 96], t1: [u8; 96], e1: [u8; 96]) -> [u8; 96]
     ensures { result ≡ unmasked (map_of system.now.bytes.now) v r1 t1 e1 }
 {
@@ -69,6 +77,7 @@ pub fn unmask(system: &System, v: [u8; 96], r1: [u8; 96], t1: [u8; 96], e1: [u8;
 }
 
 // The simulator's e1; `unanswered` is Ch*, the challenge that is not answered.
+#[tactic(auto, unfolding(protocol::specs::Protocols::simulated_e1, protocol::specs::Protocols::e1_of, protocol::specs::Rounds::map_of))]
 fn simulated_e1(
     system: &System,
     unanswered: u8,
@@ -91,6 +100,7 @@ fn simulated_e1(
 }
 
 // What the simulator commits to beside r1.
+#[tactic(auto, unfolding(protocol::specs::Protocols::simulated_mask, protocol::specs::Protocols::masked, protocol::specs::Rounds::map_of))]
 fn simulated_mask(
     system: &System,
     unanswered: u8,
@@ -112,6 +122,7 @@ fn simulated_mask(
 }
 
 // The simulator's vectors, formed without the secret.
+#[tactic(auto, unfolding(protocol::specs::Protocols::simulated, protocol::specs::Protocols::r1_of, protocol::specs::Protocols::t1_of, protocol::specs::Rounds::map_of))]
 pub fn simulated(
     system: &System,
     unanswered: u8,

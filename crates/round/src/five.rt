@@ -36,7 +36,8 @@ pub fn commitments_five(
     }
 }
 
-// The reply to a challenge.
+// The reply to a challenge, for which no system is lent: q and n are the session's.
+#[tactic(auto, unfolding(crate::specs::FivePass::reply_five))]
 pub fn reply_five(q: u8, n: u8, s: [u8; 96], r0: [u8; 96], rhos: Rhos, challenge: u8) -> ReplyFive
     ensures { result ≡ reply_five q n s r0 rhos challenge }
 {
@@ -51,6 +52,7 @@ pub fn reply_five(q: u8, n: u8, s: [u8; 96], r0: [u8; 96], rhos: Rhos, challenge
 }
 
 // The second vector that a reply to challenge 1 opens.
+#[tactic(auto, unfolding(protocol::specs::Protocols::unmasked_by, protocol::specs::Rounds::map_of))]
 fn unmasked_by(
     system: &System,
     alpha: u8,

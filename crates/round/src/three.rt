@@ -25,6 +25,7 @@ pub fn commitments_three(d: Domain, n: u8, m: u8, w: Vectors, rhos: Rhos) -> Com
 }
 
 // The reply to a challenge.
+#[tactic(auto, unfolding(crate::specs::ThreePass::reply_three))]
 pub fn reply_three(w: Vectors, rhos: Rhos, challenge: u8) -> ReplyThree
     ensures { result ≡ reply_three (vectors_of w) rhos challenge }
 {

@@ -52,6 +52,7 @@ fn check_call(
 }
 
 // What is lent behind s', as to a card.
+#[tactic(auto, using(slices::proofs::Parts::part_all), unfolding(crate::specs::Simulator::lent_behind))]
 fn lent_behind(lent: &[u8], n: u8, m: u8) -> Lent
     ensures { result ≡ lent_behind n m lent.now }
 {
@@ -59,6 +60,7 @@ fn lent_behind(lent: &[u8], n: u8, m: u8) -> Lent
 }
 
 // The simulator's vectors, from s' and what is lent behind it.
+#[tactic(auto, unfolding(crate::specs::Simulator::vectors_from))]
 fn vectors_from(system: &System, unanswered: u8, v: &[u8], lent: &[u8], l: Lent) -> Vectors
     ensures { vectors_of result ≡ vectors_from system.now.bytes.now unanswered v.now lent.now l }
 {
