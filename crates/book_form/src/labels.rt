@@ -42,7 +42,7 @@ impl<'a> Labels<'a> {
     }
 
     // Refuses the label of card i.
-    #[tactic(auto, using(crate::proofs::Loops::chain), unfolding(crate::specs::Labels::label_refusal))]
+    #[tactic(auto, using(refusal::proofs::Answers::chain), unfolding(crate::specs::Labels::label_refusal))]
     fn check_label(&self, i: u32) -> Result<(), Refusal>
         requires { i * self.now.each + 10 ≤ length self.now.bytes.now }
         ensures { number_of result ≡ label_refusal self.now.each self.now.bytes.now i }

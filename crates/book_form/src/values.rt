@@ -9,7 +9,7 @@ use system::are_sizes;
 
 impl Front {
     // Refuses numbers that are not among their values.
-    #[tactic(auto, using(crate::proofs::Loops::chain), unfolding(crate::specs::Values::values_refusal))]
+    #[tactic(auto, using(refusal::proofs::Answers::chain), unfolding(crate::specs::Values::values_refusal))]
     pub fn check_values(self) -> Result<(), Refusal>
         ensures { number_of result ≡ values_refusal self }
     {

@@ -36,7 +36,7 @@ fn key_of(book: &[u8], i: u32) -> [u8; 96]
 }
 
 // Refuses a call.
-#[tactic(auto, using(book_form::proofs::Loops::chain), unfolding(crate::specs::Lookup::lookup_refusal))]
+#[tactic(auto, using(refusal::proofs::Answers::chain), unfolding(crate::specs::Lookup::lookup_refusal))]
 fn check_call<'a>(book: &'a [u8], label: &'a [u8]) -> Result<(), Refusal>
     ensures { number_of result ≡ lookup_refusal book.now label.now }
 {

@@ -86,7 +86,7 @@ fn check_offsets(table: &[u8], front: Front) -> Result<(), Refusal>
 }
 
 // Refuses what stands before the table.
-#[tactic(auto, using(book_form::proofs::Loops::chain), unfolding(crate::specs::Reader::front_refusal))]
+#[tactic(auto, using(refusal::proofs::Answers::chain), unfolding(crate::specs::Reader::front_refusal))]
 fn check_front(front: Front, length: usize) -> Result<(), Refusal>
     ensures { number_of result ≡ front_refusal front length }
 {

@@ -17,7 +17,7 @@ use refusal::{Refusal, require};
 use slices::{put, word};
 
 // Refuses by all that the values and the lengths decide.
-#[tactic(auto, using(book_form::proofs::Loops::chain), unfolding(crate::specs::Writer::lengths_refusal))]
+#[tactic(auto, using(refusal::proofs::Answers::chain), unfolding(crate::specs::Writer::lengths_refusal))]
 fn check_lengths(front: Front, labels: usize, keys: usize, out: usize) -> Result<(), Refusal>
     ensures { number_of result ≡ lengths_refusal front labels keys out }
 {
@@ -28,7 +28,7 @@ fn check_lengths(front: Front, labels: usize, keys: usize, out: usize) -> Result
 }
 
 // Refuses a call, its output's length among its arguments: the first that applies.
-#[tactic(auto, using(book_form::proofs::Loops::chain), unfolding(crate::specs::Writer::write_refusal))]
+#[tactic(auto, using(refusal::proofs::Answers::chain), unfolding(crate::specs::Writer::write_refusal))]
 fn check_call<'a>(front: Front, labels: &'a [u8], keys: &'a [u8], out: usize) -> Result<(), Refusal>
     ensures { number_of result ≡ write_refusal (fields_of front labels.now keys.now) out }
 {
@@ -81,6 +81,7 @@ fn put_book<'a>(front: Front, labels: &'a [u8], keys: &'a [u8], out: &mut [u8])
 }
 
 // Writes the book of a delivery: the labels and the keys of all its cards.
+#[tactic(auto, using(refusal::proofs::Answers::chain))]
 pub fn write<'a>(
     count: u32,
     q: u8,

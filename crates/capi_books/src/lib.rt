@@ -13,6 +13,7 @@ use book_reader::read;
 use refusal::{Refusal, require};
 
 // A book's first seven bytes.
+#[tactic(auto, using(refusal::proofs::Answers::chain), unfolding(crate::specs::Numbers::book_fields_refusal))]
 pub fn read_fields(book: &[u8], fields: &mut [u8]) -> Result<(), Refusal>
     ensures { (number_of result ≡ book_fields_refusal book.now (length fields.old))
         × (fields.new ≡ kept (number_of result) fields.old (take 7 book.now)) }

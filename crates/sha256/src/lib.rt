@@ -1,6 +1,5 @@
 // SHA-256 (FIPS 180-4) of messages of 0 to 65,535 bytes. `digest` writes the digest to memory that is lent to it, and refuses a
-// longer message or an output that is not 32 bytes long: it then returns 2 and leaves the output as it was. `hash` returns the
-// digest by value.
+// longer message or an output that is not 32 bytes long, which it leaves as it was. `hash` returns the digest by value.
 #![tactic(auto)]
 
 mod padding;
@@ -9,12 +8,12 @@ ghost use Rattle.std.specs.Prelude.{◌≡◌, ◌/◌, ◌<◌, ◌≤◌, leng
 ghost use Rattle.sha256.specs.Padding.{pad, block_count};
 ghost use Rattle.sha256.specs.Sha256.{hash_value, hash_words, sha256};
 ghost use Rattle.sha256_block.specs.State.{variables};
-ghost use Rattle.refusal.specs.Refusal.{kept};
+ghost use Rattle.refusal.specs.Refusal.{kept, number_of};
 ghost use Rattle.sha256.specs.Digest.{digest_refusal};
 
 use crate::padding::{block_count, padded_block};
+use refusal::{Refusal, require};
 use sha256_block::{State, hash_block, initial_state};
-use slices::put;
 
 // The hash value after the blocks that the message has whole.
 fn whole_blocks(message: &[u8]) -> State
@@ -67,19 +66,15 @@ pub fn hash(message: &[u8]) -> [u8; 32]
 // The bytes of a digest.
 const DIGEST_LENGTH: usize = 32;
 
-// Writes the digest of a message to out and returns 0; or returns 2 and leaves out as it was, where the message is longer than
-// 65,535 bytes or out is not 32 bytes long.
-pub fn digest(message: &[u8], out: &mut [u8]) -> u8
-    ensures { (result ≡ digest_refusal (length message.now) (length out.old))
-        × (out.new ≡ kept result out.old (sha256 message.now)) }
+// Writes the digest of a message to out. Refused, with out as it was: a message of more than 65,535 bytes, an out that is not 32 long.
+#[tactic(auto, using(refusal::proofs::Answers::chain), unfolding(crate::specs::Digest::digest_refusal))]
+pub fn digest(message: &[u8], out: &mut [u8]) -> Result<(), Refusal>
+    ensures { (number_of result ≡ digest_refusal (length message.now) (length out.old))
+        × (out.new ≡ kept (number_of result) out.old (sha256 message.now)) }
 {
-    if message.len() > 65535 {
-        return 2;
-    }
-    if out.len() != DIGEST_LENGTH {
-        return 2;
-    }
+    require(message.len() <= 65535, Refusal::Length)?;
+    require(out.len() == DIGEST_LENGTH, Refusal::Length)?;
     let d = hash(message);
-    put(out, 0, &d);
-    0
+    out.copy_from_slice(&d);
+    Ok(())
 }

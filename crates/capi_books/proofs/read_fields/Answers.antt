@@ -6,18 +6,9 @@ use lib.Seq.{length-take-le}
 use Rattle.std.proofs.Common.{rules}
 use Rattle.refusal.proofs.Answers.{goes_on_chain}
 use Rattle.refusal.proofs.Chains.{ends_here}
-use Rattle.book_form.proofs.Loops.{some_number, refused_call, done_call}
 use Rattle.capi_books.specs.Numbers.{book_fields_refusal}
 use Rattle.capi_books.proofs.Outputs.{fits, seven}
 use Rattle.capi_books.proofs.read_fields.Goals as goal
-
-pub returns-in_err-require : goal.returns-in_err-require
-unfolding book_fields_refusal
-returns-in_err-require c = refused_call _ _ _ _ _ (search rules) (ends_here _ _ _ c.in_err-require.ensures (some_number _))
-
-pub returns-in_err-read : goal.returns-in_err-read
-unfolding book_fields_refusal
-returns-in_err-read c = refused_call _ _ _ _ _ (search rules) (goes_on_chain _ _ _ c.in_ok-require.ensures c.in_err-read.ensures.refusal)
 
 pub slice_bounds-first-end : goal.slice_bounds-first-end
 slice_bounds-first-end c = omega (arith, length-take-le 7 c.args.book.now (seven _ c.in_ok-read.ensures.refusal))
@@ -26,9 +17,3 @@ pub copy_from_slice-requires : goal.copy_from_slice-requires
 copy_from_slice-requires c =
     let long = length-take-le 7 c.args.book.now (seven _ c.in_ok-read.ensures.refusal) in
     omega (arith, long, fits _ 7 c.in_ok-require.ensures)
-
-pub returns : goal.returns
-unfolding book_fields_refusal
-returns c =
-    let put : c.copy_from_slice.new.self ≡ take 7 c.args.book.now = search rules in
-    done_call _ _ _ _ (goes_on_chain _ _ _ c.in_ok-require.ensures c.in_ok-read.ensures.refusal) put
