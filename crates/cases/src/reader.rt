@@ -1,8 +1,8 @@
 // A file's parts, read one behind the other: slices of bytes in short form, a pattern that is repeated, then changed at single
 // places.
-ghost use Rattle.std.specs.Prelude.{◌≡◌, ◌+◌, ◌*◌, ◌<◌, ◌≤◌, ◌++◌, length, take, drop, IfSome, MatchOption};
+ghost use Rattle.std.specs.Prelude.{◌≡◌, ◌+◌, ◌<◌, ◌≤◌, length, take, drop, IfSome};
 ghost use Rattle.slices.specs.Slices.{number as number_of};
-ghost use Rattle.cases.specs.Piece.{Placed};
+ghost use Rattle.cases.specs.Piece.{IsPrefixLen, Placed};
 
 use crate::small::Small;
 
@@ -43,7 +43,7 @@ impl<'a> Reader<'a> {
 
     // Expands the next piece into the start of the buffer, and answers it.
     pub fn load<'b>(&mut self, buffer: &'b mut [u8]) -> Option<&'b [u8]>
-        ensures { IfSome result (λ s. length s.now ≤ length buffer.old) }
+        ensures { IfSome result (λ s. IsPrefixLen (length s.now) buffer.old) }
     {
         let piece = self.piece()?;
         let out = buffer.get_mut(..piece.length)?;

@@ -1,6 +1,4 @@
 // A run through a file, group by group.
-ghost use Rattle.std.specs.Prelude.{◌≤◌, length, IfErr};
-
 use crate::case::{Case, next_case, next_group};
 use crate::reader::Reader;
 use crate::tally::Tally;

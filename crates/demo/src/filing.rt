@@ -1,5 +1,5 @@
 // A session's record: written, stored where an argument names a file, and reported on.
-ghost use Rattle.std.specs.Prelude.{◌≡◌, ◌≤◌, length, IfOk};
+ghost use Rattle.std.specs.Prelude.{◌≡◌, ◌≤◌, length};
 
 use crate::refused::{Refused, unless_refused};
 use crate::terms::Terms;

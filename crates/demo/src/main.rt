@@ -40,7 +40,8 @@ fn main(rt: HostRuntime) {
     }
 }
 
-// Takes the system from the front of the input, and plays each session in turn.
+// Takes the system from the front of the input, and plays each session in turn. How long one is stands in its own bytes, so that
+// their number is known at the end alone.
 fn play_all<R: Env + Eprint + Files + Print>(rt: &R, input: &[u8]) -> Result<(), Refused> {
     let system = system_part(input);
     if input.len() <= system.len() || INPUT < input.len() {
