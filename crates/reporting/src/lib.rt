@@ -5,31 +5,29 @@
 #![tactic(auto)]
 
 ghost use Rattle.std.specs.Prelude.{◌≡◌, ◌≤◌, length, IfOk};
-ghost use Rattle.slices.specs.Slices.{placed, zeros};
+ghost use Rattle.slices.specs.Slices.{placed, zeros as zeros_of};
 ghost use Rattle.refusal.specs.Refusal.{number_of};
 ghost use Rattle.reporting.specs.Report.{system_part, record_part, report_refusal, judged_text, report_length, report_out};
 
 use record::header_of;
 use refusal::{Refusal, require};
 use report_lines::{refused_line, round_line, totals_line, verdict_line};
-use slices::{byte_at, part};
+use slices::{byte_at, part, zeros};
 use system::{System, system_length};
 use transcript::{accepts_round, checked_system, round_challenge};
 
 // Zeros, with room for the longest input and one byte more, by which an input that is too long shows.
-#[tactic(auto, unfolding(slices::specs::Slices::zeros))]
 pub fn input_buffer() -> [u8; 65537]
-    ensures { (result ≡ zeros 65537) × (65537 ≡ length result) }
+    ensures { (result ≡ zeros_of 65537) × (65537 ≡ length result) }
 {
-    [0; 65537]
+    zeros()
 }
 
 // Zeros, with room for the longest text.
-#[tactic(auto, unfolding(slices::specs::Slices::zeros))]
 pub fn text_buffer() -> [u8; 8192]
-    ensures { (result ≡ zeros 8192) × (8192 ≡ length result) }
+    ensures { (result ≡ zeros_of 8192) × (8192 ≡ length result) }
 {
-    [0; 8192]
+    zeros()
 }
 
 // The system at the front of the input.
