@@ -15,9 +15,7 @@ fn accepted_rounds(system: &System, bytes: &[u8]) -> u8
     let rounds = header_of(bytes).rounds;
     let mut accepted = 0;
     for r in 0..rounds {
-        if accepts_round(system, bytes, r) {
-            accepted += 1;
-        }
+        accepted += u8::from(accepts_round(system, bytes, r));
     }
     accepted
 }

@@ -54,6 +54,7 @@ pub extern "C" fn bench_card<'a>(
 
 // The carrier: open with one round, take the commitments, set α, take t1 and e1, set the challenge, take the reply. Answers
 // whether the round is accepted.
+#[tactic(auto, using(refusal::proofs::Answers::chain), unfolding(crate::specs::Bench::open_carrier, crate::specs::Bench::carrier_committed, crate::specs::Bench::carrier_weighed, crate::specs::Bench::carrier_told, crate::specs::Bench::carrier_asked))]
 #[unsafe(no_mangle)]
 pub extern "C" fn bench_carrier<'a>(
     system: &'a [u8],
@@ -79,5 +80,7 @@ pub extern "C" fn bench_carrier<'a>(
     let weighed = carrier::set_alpha(committed, alpha).session;
     let taken = carrier::take_middle(weighed, middle).session;
     let asked = carrier::set_challenge(taken, challenge).session;
-    carrier::take_reply(asked, system, reply).answer.unwrap_or(false)
+    carrier::take_reply(asked, system, reply)
+        .answer
+        .unwrap_or(false)
 }

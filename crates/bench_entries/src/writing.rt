@@ -24,7 +24,5 @@ pub extern "C" fn bench_write<'a>(
         × (out.new ≡ kept result out.old (written
         (fields_of (header_of scheme q n m rounds) key.now commitments.now exchanges.now))) }
 {
-    number_of(record_writer::write(
-        scheme, q, n, m, rounds, key, commitments, exchanges, out,
-    ))
+    number_of(record_writer::write(scheme, q, n, m, rounds, key, commitments, exchanges, out))
 }

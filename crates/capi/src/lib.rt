@@ -24,10 +24,9 @@ ghost use Rattle.book_lookup.specs.Lookup.{lookup_of};
 ghost use Rattle.capi_books.specs.Numbers.{book_fields_refusal, lookup_number};
 ghost use Rattle.capi.specs.Layouts.{fields_bytes, fields_refusal, audit_refusal};
 
-use crate::layouts::{answer, length_refusal, write_fields};
+use crate::layouts::{answer, length_refusal, read_fields};
 use auditing::{audit_five, audit_three};
-use record::{header_of, read, refusal_of};
-use refusal::unless;
+use refusal::number_of;
 
 // The digest of a message.
 #[unsafe(no_mangle)]
@@ -35,7 +34,7 @@ pub extern "C" fn canvasfox_sha256(message: &[u8], digest: &mut [u8]) -> u8
     ensures { (result ≡ digest_refusal (length message.now) (length digest.old))
         × (digest.new ≡ kept result digest.old (sha256 message.now)) }
 {
-    sha256::digest(message, digest)
+    number_of(sha256::digest(message, digest))
 }
 
 // Whether a system is well-formed.
@@ -43,7 +42,7 @@ pub extern "C" fn canvasfox_sha256(message: &[u8], digest: &mut [u8]) -> u8
 pub extern "C" fn canvasfox_system_check(system: &[u8]) -> u8
     ensures { result ≡ system_refusal system.now }
 {
-    system::check(system)
+    number_of(system::check(system))
 }
 
 // F(x).
@@ -52,7 +51,7 @@ pub extern "C" fn canvasfox_evaluate<'a>(system: &'a [u8], x: &'a [u8], out: &mu
     ensures { (result ≡ evaluate_refusal system.now x.now (length out.old))
         × (out.new ≡ kept result out.old (take (m_of system.now) (F system.now x.now))) }
 {
-    evaluation::evaluate(system, x, out)
+    number_of(evaluation::evaluate(system, x, out))
 }
 
 // G(x, y).
@@ -66,7 +65,7 @@ pub extern "C" fn canvasfox_polar<'a>(
     ensures { (result ≡ polar_refusal system.now x.now y.now (length out.old))
         × (out.new ≡ kept result out.old (take (m_of system.now) (G system.now x.now y.now))) }
 {
-    evaluation::polar(system, x, y, out)
+    number_of(evaluation::polar(system, x, y, out))
 }
 
 // A simulated round's commitments and its reply.
@@ -86,7 +85,7 @@ pub extern "C" fn canvasfox_simulate<'a>(
         (simulated_commitments system.now v.now unanswered lent.now))
         × (reply.new ≡ kept result reply.old (simulated_reply system.now v.now unanswered challenge lent.now)) }
 {
-    simulator::simulate(system, v, unanswered, challenge, lent, commitments, reply)
+    number_of(simulator::simulate(system, v, unanswered, challenge, lent, commitments, reply))
 }
 
 // A record's header and where its bodies stand.
@@ -95,16 +94,7 @@ pub extern "C" fn canvasfox_record_read(bytes: &[u8], fields: &mut [u8]) -> u8
     ensures { (result ≡ fields_refusal bytes.now (length fields.old))
         × (fields.new ≡ kept result fields.old (fields_bytes (layout_of (header_in bytes.now)))) }
 {
-    let of_length = unless(fields.len() == 30, 2);
-    if of_length != 0 {
-        return of_length;
-    }
-    let refused = refusal_of(read(bytes));
-    if refused != 0 {
-        return refused;
-    }
-    write_fields(header_of(bytes), fields);
-    0
+    number_of(read_fields(bytes, fields))
 }
 
 // The text for a system and a record, to the front of 8,192 bytes; its length.
@@ -172,7 +162,7 @@ pub extern "C" fn canvasfox_book_write<'a>(
     ensures { (result ≡ write_refusal (fields_of (front_of count q n m) labels.now keys.now) (length book.old))
         × (book.new ≡ kept result book.old (written (fields_of (front_of count q n m) labels.now keys.now))) }
 {
-    book_writer::write(count, q, n, m, labels, keys, book)
+    number_of(book_writer::write(count, q, n, m, labels, keys, book))
 }
 
 // A book's first seven bytes.
@@ -181,7 +171,7 @@ pub extern "C" fn canvasfox_book_read(book: &[u8], fields: &mut [u8]) -> u8
     ensures { (result ≡ book_fields_refusal book.now (length fields.old))
         × (fields.new ≡ kept result fields.old (take 7 book.now)) }
 {
-    capi_books::read_fields(book, fields)
+    number_of(capi_books::read_fields(book, fields))
 }
 
 // The key of the card with this label.

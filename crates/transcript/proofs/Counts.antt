@@ -4,6 +4,7 @@ use mathlib.Core.Path.{◌≡◌, refl, ap₂, ◌∙◌}
 use mathlib.Core.Bool.{Bool, true, false, cond}
 use mathlib.Core.List.{List}
 use mathlib.Core.Logic.{⊎_elim}
+use mir.Val.{bool_byte}
 use native.Mathlib.Nat.{not-suc-le-zero, eq-or-lt_of_le, le_of_suc-le-suc, le_refl}
 use native.Mathlib.Omega.{arith}
 use native.Mathlib.Numerals.{add-one}
@@ -19,6 +20,16 @@ pub count_step : (system b : List ℕ) (count next r later : ℕ) (accepted : Bo
     next ≡ count + cond accepted 1 0 → next ≡ accepted_count system b later
 unfolding accepted_count
 count_step system b count next r later accepted ec el ea en = rw (el, add-one) (en ∙ ap₂ (λ (k : ℕ) (t : Bool). k + cond t 1 0) ec ea)
+
+-- a `bool` as a byte is 1 or 0
+pub as_count : (t : Bool) → bool_byte t ≡ cond t 1 0
+as_count true = refl
+as_count false = refl
+
+-- one round more, and at most one accepted more
+pub one_more_at_most : (accepted one r : ℕ) (t : Bool) → one ≡ cond t 1 0 → accepted ≤ r → accepted + one ≤ r + 1
+one_more_at_most accepted one r true is most = omega (arith, is, most)
+one_more_at_most accepted one r false is most = omega (arith, is, most)
 
 -- ---- what the count says
 

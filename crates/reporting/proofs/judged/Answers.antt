@@ -1,23 +1,11 @@
 -- A line a round, the count of those that are accepted, and the end behind them. Assumes nothing.
-use Prim.Native.Nat.{ℕ, ◌+◌, ◌≤◌}
-use mathlib.Core.Path.{◌≡◌, refl, ap, ◌∙◌}
-use mathlib.Core.Bool.{Bool, true, false, cond}
-use mir.Val.{bool_byte}
+use Prim.Native.Nat.{ℕ, ◌+◌}
+use mathlib.Core.Path.{refl, ap, ◌∙◌}
 use native.Mathlib.Omega.{arith}
 use Rattle.record_form.specs.declared.layout.Header.{Header}
-use Rattle.transcript.proofs.Counts.{count_start, count_step}
+use Rattle.transcript.proofs.Counts.{count_start, count_step, as_count, one_more_at_most}
 use Rattle.reporting.proofs.Lines.{lines_start, lines_step, text_end}
 use Rattle.reporting.proofs.judged.Goals as goal
-
--- a `bool` as a byte is 1 or 0
-as_count : (t : Bool) → bool_byte t ≡ cond t 1 0
-as_count true = refl
-as_count false = refl
-
--- one round more, and at most one accepted more
-one_more_at_most : (accepted one r : ℕ) (t : Bool) → one ≡ cond t 1 0 → accepted ≤ r → accepted + one ≤ r + 1
-one_more_at_most accepted one r true is most = omega (arith, is, most)
-one_more_at_most accepted one r false is most = omega (arith, is, most)
 
 pub loop-r-init : goal.loop-r-init
 loop-r-init c = (omega arith, count_start _ _ 0 refl, lines_start _ _ _ 0 refl)

@@ -1,2 +1,0 @@
--- Laws of a session's calls in a row.
-mod Calls
