@@ -1,16 +1,14 @@
 // Cases of the reader: its answer as 30 bytes, the header, then offset and length of each body.
 use cases::Case;
-use record::Reading;
 use record_form::{Body, Layout};
-use scheme::byte_of;
 use slices::{put, word};
 
 pub fn read_case(mut case: Case, buffer: &mut [u8]) -> Option<bool> {
     let bytes = case.pieces.load(buffer)?;
     let expected = case.pieces.small()?;
     let (number, answer) = match record::read(bytes) {
-        Reading::Good(layout) => (0, layout_bytes(layout)),
-        Reading::Refused(number) => (number, [case.fill; 30]),
+        Ok(layout) => (0, layout_bytes(layout)),
+        Err(refusal) => (u8::from(refusal), [case.fill; 30]),
     };
     Some(number == case.number && expected.as_slice() == answer.as_slice())
 }
@@ -19,7 +17,7 @@ fn layout_bytes(layout: Layout) -> [u8; 30] {
     let header = layout.header;
     let numbers = [
         layout.edition,
-        byte_of(header.scheme),
+        u8::from(header.scheme),
         header.q,
         header.n,
         header.m,

@@ -1,5 +1,6 @@
 // Cases of the writer.
 use cases::Case;
+use refusal::number_of;
 
 // Whether the writer answers the number, and leaves what is expected where the fill was.
 pub fn write_case(
@@ -17,7 +18,7 @@ pub fn write_case(
     let out = out.get_mut(..expected.len())?;
     out.fill(case.fill);
     let [scheme, q, n, m, rounds, ..] = numbers.bytes;
-    let number = record_writer::write(
+    let answer = record_writer::write(
         scheme,
         q,
         n,
@@ -28,5 +29,5 @@ pub fn write_case(
         exchanges,
         out,
     );
-    Some(number == case.number && *out == *expected)
+    Some(number_of(answer) == case.number && *out == *expected)
 }

@@ -2,21 +2,21 @@
 use cases::Small;
 use round::{CommitmentsFive, CommitmentsThree, Middle, ReplyFive, ReplyThree};
 use scheme::{Scheme, commitments_length, reply_length};
-use slices::bytes32;
+use slices::bytes_at;
 
 // c0, c1 and c2 of three passes.
 pub fn same_three_commitments(made: CommitmentsThree, expected: &Small) -> bool {
     expected.length == commitments_length(Scheme::ThreePass)
-        && made.c0 == bytes32(&expected.bytes, 0)
-        && made.c1 == bytes32(&expected.bytes, 32)
-        && made.c2 == bytes32(&expected.bytes, 64)
+        && made.c0 == bytes_at(&expected.bytes, 0)
+        && made.c1 == bytes_at(&expected.bytes, 32)
+        && made.c2 == bytes_at(&expected.bytes, 64)
 }
 
 // c0 and c1 of five passes.
 pub fn same_five_commitments(made: CommitmentsFive, expected: &Small) -> bool {
     expected.length == commitments_length(Scheme::FivePass)
-        && made.c0 == bytes32(&expected.bytes, 0)
-        && made.c1 == bytes32(&expected.bytes, 32)
+        && made.c0 == bytes_at(&expected.bytes, 0)
+        && made.c1 == bytes_at(&expected.bytes, 32)
 }
 
 // t1 and e1, without α before them.

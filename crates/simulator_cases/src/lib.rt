@@ -2,6 +2,7 @@
 #![tactic(auto)]
 
 use cases::{Case, Kind};
+use refusal::number_of;
 
 // Runs a case, whose system the buffer has room for, and answers whether it agrees in both outputs. A case of another kind is
 // malformed.
@@ -18,7 +19,7 @@ pub fn simulator_case(mut case: Case, buffer: &mut [u8]) -> Option<bool> {
     let reply = case.pieces.small()?;
     let mut first = [case.fill; 512];
     let mut second = [case.fill; 512];
-    let number = simulator::simulate(
+    let answer = simulator::simulate(
         system,
         v.as_slice(),
         unanswered,
@@ -27,5 +28,5 @@ pub fn simulator_case(mut case: Case, buffer: &mut [u8]) -> Option<bool> {
         &mut first[..commitments.length],
         &mut second[..reply.length],
     );
-    Some(case.agrees(number, &commitments, &first) && reply.begins(&second))
+    Some(case.agrees(number_of(answer), &commitments, &first) && reply.begins(&second))
 }

@@ -2,12 +2,13 @@
 #![tactic(auto)]
 
 use cases::{Case, Kind};
+use refusal::number_of;
 
 // Runs a case, whose system the buffer has room for, and answers whether it agrees. A case of another kind is malformed.
 pub fn system_case(mut case: Case, buffer: &mut [u8]) -> Option<bool> {
     let system = case.pieces.load(buffer)?;
     match case.kind {
-        Kind::CheckSystem => Some(system::check(system) == case.number),
+        Kind::CheckSystem => Some(number_of(system::check(system)) == case.number),
         Kind::Evaluate => evaluate_case(case, system),
         Kind::Polar => polar_case(case, system),
         _ => None,
@@ -19,8 +20,8 @@ fn evaluate_case(mut case: Case, system: &[u8]) -> Option<bool> {
     let x = case.pieces.small()?;
     let expected = case.pieces.small()?;
     let mut out = [case.fill; 512];
-    let number = evaluation::evaluate(system, x.as_slice(), &mut out[..expected.length]);
-    Some(case.agrees(number, &expected, &out))
+    let answer = evaluation::evaluate(system, x.as_slice(), &mut out[..expected.length]);
+    Some(case.agrees(number_of(answer), &expected, &out))
 }
 
 fn polar_case(mut case: Case, system: &[u8]) -> Option<bool> {
@@ -28,11 +29,11 @@ fn polar_case(mut case: Case, system: &[u8]) -> Option<bool> {
     let y = case.pieces.small()?;
     let expected = case.pieces.small()?;
     let mut out = [case.fill; 512];
-    let number = evaluation::polar(
+    let answer = evaluation::polar(
         system,
         x.as_slice(),
         y.as_slice(),
         &mut out[..expected.length],
     );
-    Some(case.agrees(number, &expected, &out))
+    Some(case.agrees(number_of(answer), &expected, &out))
 }
