@@ -29,22 +29,12 @@ pub fn bytes_at<const N: usize>(s: &[u8], at: usize) -> [u8; N]
     out
 }
 
-// Whether two slices hold the same bytes; with no early exit, so that many are compared at a time.
-pub fn equal<'a>(a: &'a [u8], b: &'a [u8]) -> bool
+// Whether two slices hold the same bytes.
+#[tactic(auto, using(crate::proofs::Sameness::pointwise_same))]
+pub fn equal(a: &[u8], b: &[u8]) -> bool
     ensures { result ≡ same a.now b.now }
 {
-    if a.len() != b.len() {
-        return false;
-    }
-    let mut alike = true;
-    let mut i = 0;
-    while i < a.len() {
-        if a[i] != b[i] {
-            alike = false;
-        }
-        i += 1;
-    }
-    alike
+    a == b
 }
 
 // At most `count` bytes from `at` on: what there is of them.
