@@ -5,7 +5,7 @@
 #![tactic(auto)]
 
 ghost use Rattle.std.specs.Prelude.{◌≡◌};
-ghost use Rattle.system.specs.System.{system_refusal};
+ghost use Rattle.refusal.specs.Refusal.{counted};
 ghost use Rattle.clash.specs.Clash.{lower_challenge, higher_challenge, opener_five, left_record, right_record};
 ghost use Rattle.clash.specs.Clash.{left_string, right_string, PairOf, same_pair, first_clash};
 
@@ -13,9 +13,11 @@ use commitment::Text;
 use full_set::answering;
 use openings::{opened_string, same_vectors};
 use scheme::{Scheme, commitment_count};
+use system::System;
 use transcript::domain_in;
 
 // Three passes: the lower of the two challenges whose replies open commitment k.
+#[tactic(auto, unfolding(crate::specs::Clash::lower_challenge))]
 fn lower_challenge(k: u8) -> u8
     ensures { result ≡ lower_challenge k }
 {
@@ -26,27 +28,26 @@ fn lower_challenge(k: u8) -> u8
 }
 
 // And the higher.
+#[tactic(auto, unfolding(crate::specs::Clash::higher_challenge))]
 fn higher_challenge(k: u8) -> u8
     ensures { result ≡ higher_challenge k }
 {
     match k {
-        0 => 2,
-        1 => 2,
+        0 | 1 => 2,
         _ => 1,
     }
 }
 
 // Five passes: of two records with the challenges 0 and 1, the one that opens commitment k.
+#[tactic(auto, unfolding(crate::specs::Clash::opener_five))]
 fn opener_five<'a>(x: &'a [u8], y: &'a [u8], k: u8) -> &'a [u8]
     ensures { result.now ≡ opener_five x.now y.now k }
 {
-    if k != 0 {
-        return y;
-    }
-    x
+    if k == 0 { x } else { y }
 }
 
 // The record whose opening of commitment k stands first.
+#[tactic(auto, unfolding(crate::specs::Clash::left_record))]
 fn left_record<'a>(scheme: Scheme, a: &'a [u8], b: &'a [u8], c: &'a [u8], r: u8, k: u8) -> &'a [u8]
     ensures { result.now ≡ left_record scheme a.now b.now c.now r k }
 {
@@ -57,6 +58,7 @@ fn left_record<'a>(scheme: Scheme, a: &'a [u8], b: &'a [u8], c: &'a [u8], r: u8,
 }
 
 // The record whose opening of commitment k is compared with it.
+#[tactic(auto, unfolding(crate::specs::Clash::right_record))]
 fn right_record<'a>(
     scheme: Scheme,
     a: &'a [u8],
@@ -81,19 +83,18 @@ pub struct Pair {
     pub right: Text,
 }
 
-pub fn opened_pair<'a>(
+pub fn opened_pair(
     scheme: Scheme,
-    system: &'a [u8],
-    a: &'a [u8],
-    b: &'a [u8],
-    c: &'a [u8],
-    d: &'a [u8],
+    system: &System,
+    a: &[u8],
+    b: &[u8],
+    c: &[u8],
+    d: &[u8],
     r: u8,
     k: u8,
 ) -> Pair
-    requires { system_refusal system.now ≡ 0 }
-    ensures { PairOf result (left_string scheme system.now a.now b.now c.now r k)
-        (right_string scheme system.now a.now b.now c.now d.now r k) }
+    ensures { PairOf result (left_string scheme system.now.bytes.now a.now b.now c.now r k)
+        (right_string scheme system.now.bytes.now a.now b.now c.now d.now r k) }
 {
     let left = opened_string(system, left_record(scheme, a, b, c, r, k), r, k);
     let right = opened_string(system, right_record(scheme, a, b, c, d, r, k), r, k);
@@ -101,46 +102,38 @@ pub fn opened_pair<'a>(
 }
 
 // Whether both open commitment k with the same vectors.
-fn same_pair<'a>(
+fn same_pair(
     scheme: Scheme,
-    system: &'a [u8],
-    a: &'a [u8],
-    b: &'a [u8],
-    c: &'a [u8],
-    d: &'a [u8],
+    system: &System,
+    a: &[u8],
+    b: &[u8],
+    c: &[u8],
+    d: &[u8],
     r: u8,
     k: u8,
 ) -> bool
-    requires { system_refusal system.now ≡ 0 }
-    ensures { result ≡ same_pair scheme system.now a.now b.now c.now d.now r k }
+    ensures { result ≡ same_pair scheme system.now.bytes.now a.now b.now c.now d.now r k }
 {
-    let pair = opened_pair(scheme, system, a, b, c, d, r, k);
-    let left = pair.left;
-    let right = pair.right;
+    let Pair { left, right } = opened_pair(scheme, system, a, b, c, d, r, k);
     same_vectors(domain_in(a), left, right)
 }
 
-// The first pair that differs, counted from 1; 0 where none does.
-pub fn first_clash<'a>(
+// The first commitment whose pair differs.
+pub fn first_clash(
     scheme: Scheme,
-    system: &'a [u8],
-    a: &'a [u8],
-    b: &'a [u8],
-    c: &'a [u8],
-    d: &'a [u8],
+    system: &System,
+    a: &[u8],
+    b: &[u8],
+    c: &[u8],
+    d: &[u8],
     r: u8,
-) -> u8
-    requires { system_refusal system.now ≡ 0 }
-    ensures { result ≡ first_clash scheme system.now a.now b.now c.now d.now r }
+) -> Option<u8>
+    ensures { counted result ≡ first_clash scheme system.now.bytes.now a.now b.now c.now d.now r }
 {
-    let count = commitment_count(scheme);
-    let mut k = 0;
-    while k < count {
-        if same_pair(scheme, system, a, b, c, d, r, k) {
-            k += 1;
-        } else {
-            return k + 1;
+    for k in 0..commitment_count(scheme) {
+        if !same_pair(scheme, system, a, b, c, d, r, k) {
+            return Some(k);
         }
     }
-    0
+    None
 }

@@ -9,7 +9,7 @@ ghost use Rattle.commitment.specs.Commitment.{prefix, hashed_string, vectors_at,
 ghost use Rattle.commitment.specs.Texts.{content, Room, TextOf, Appended};
 
 use field::clamped;
-use scheme::{Scheme, byte_of};
+use scheme::Scheme;
 
 // What stands in a hashed string before ρ, besides the number of the commitment.
 #[derive(Clone, Copy)]
@@ -62,8 +62,7 @@ fn put(bytes: [u8; 322], at: usize, s: &[u8]) -> [u8; 322]
 fn start(d: Domain, k: u8, rho: [u8; 32]) -> Text
     ensures { TextOf (prefix d k ++ rho) (3 * 96) result }
 {
-    let scheme = d.scheme;
-    let first = byte_of(scheme);
+    let first = u8::from(d.scheme);
     let mut bytes = [0; 322];
     bytes[0] = first;
     bytes[1] = k;

@@ -1,5 +1,5 @@
 -- What an audit refuses before it looks for a full set: of the system, of each record, of records that differ, and of a round that is rejected.
-use Rattle.std.specs.Prelude.{ℕ, cond, not, List, eqb, take}
+use Rattle.std.specs.Prelude.{ℕ, cond, not, List, eqb, take, Option, Some, None}
 use Rattle.slices.specs.Slices.{same}
 use Rattle.refusal.specs.Refusal.{unless, ◌or_else◌, first_where}
 use Rattle.system.specs.System.{system_refusal}
@@ -51,6 +51,11 @@ rejected_in whose round later = cond (eqb round 0) later (record { whose = whose
 -- no round is rejected
 abbrev pub no_rejection : Rejection
 no_rejection = record { whose = 0; round = 0 }
+
+-- the rejection of an answer
+abbrev pub rejection_in : Option Rejection → Rejection
+rejection_in None = no_rejection
+rejection_in (Some rejection) = rejection
 
 -- the same among the last two records
 unfoldable pub later_rejection : Scheme → List ℕ → List ℕ → List ℕ → Rejection

@@ -4,159 +4,109 @@
 // Scheme 3 has no fourth record, and `d` is not looked at there.
 #![tactic(auto)]
 
-ghost use Rattle.std.specs.Prelude.{◌≡◌};
-ghost use Rattle.system.specs.System.{system_refusal};
-ghost use Rattle.refusal.specs.Refusal.{◌or_else◌};
-ghost use Rattle.transcript.specs.Transcript.{fit_refusal};
+ghost use Rattle.std.specs.Prelude.{◌≡◌, ◌<◌, IfOk, IfSome};
+ghost use Rattle.refusal.specs.Refusal.{number_of, counted};
 ghost use Rattle.comparable.specs.Comparable.{audited_refusal, difference_refusal, of_fourth, comparable_refusal};
-ghost use Rattle.comparable.specs.Comparable.{rejected_round, later_rejection, rejection_of};
+ghost use Rattle.comparable.specs.Comparable.{rejected_round, later_rejection, rejection_of, rejection_in};
 
-use record::{Reading, body_of, header_of, read, refusal_of};
-use record_form::laid_out;
-use refusal::{first, unless};
-use scheme::{Scheme, byte_of};
-use slices::{equal, part};
-use system::check;
-use transcript::{accepts_round, fit_refusal};
+use record::{body_of, header_of, read};
+use refusal::{Refusal, require};
+use scheme::Scheme;
+use slices::part;
+use system::System;
+use transcript::{accepts_round, check_fit};
 
-// The refusal of one record, 0 for none.
-fn audited_refusal(scheme: Scheme, bytes: &[u8]) -> u8
-    ensures { result ≡ audited_refusal scheme bytes.now }
+// Refuses one record.
+#[tactic(auto, using(refusal::proofs::Answers::chain, crate::proofs::Schemes::same_scheme), unfolding(crate::specs::Comparable::audited_refusal, record_form::specs::Record::layout_of))]
+fn check_audited(scheme: Scheme, bytes: &[u8]) -> Result<(), Refusal>
+    ensures { number_of result ≡ audited_refusal scheme bytes.now }
 {
     let reading = read(bytes);
-    let Reading::Good(layout) = reading else {
-        return refusal_of(reading);
+    let Ok(layout) = reading else {
+        return reading.map(|_| ());
     };
-    let header = layout.header;
-    let of_record = header.scheme;
-    unless(byte_of(of_record) == byte_of(scheme), 1)
+    require(layout.header.scheme == scheme, Refusal::Value)
 }
 
-// 7 where two records differ in the header, the key or a commitment; it ends at the first of the three that differs.
-fn difference_refusal<'a>(a: &'a [u8], b: &'a [u8]) -> u8
-    ensures { result ≡ difference_refusal a.now b.now }
+// Refuses two records that differ in the header, the key or a commitment; it ends at the first of the three that differs.
+#[tactic(auto, using(refusal::proofs::Answers::chain, slices::proofs::Sameness::pointwise_same), unfolding(crate::specs::Comparable::difference_refusal, record_form::specs::Record::fields_in))]
+fn check_alike(a: &[u8], b: &[u8]) -> Result<(), Refusal>
+    ensures { number_of result ≡ difference_refusal a.now b.now }
 {
-    let header = unless(equal(part(a, 0, 6), part(b, 0, 6)), 7);
-    if header != 0 {
-        return header;
-    }
-    let of_a = laid_out(header_of(a));
-    let of_b = laid_out(header_of(b));
-    let key = unless(equal(body_of(a, of_a.key), body_of(b, of_b.key)), 7);
-    if key != 0 {
-        return key;
-    }
-    let commitments = equal(body_of(a, of_a.commitments), body_of(b, of_b.commitments));
-    unless(commitments, 7)
+    let of_a = header_of(a).layout();
+    let of_b = header_of(b).layout();
+    require(part(a, 0, 6) == part(b, 0, 6), Refusal::Mismatch)?;
+    require(
+        body_of(a, of_a.key) == body_of(b, of_b.key),
+        Refusal::Mismatch,
+    )?;
+    require(
+        body_of(a, of_a.commitments) == body_of(b, of_b.commitments),
+        Refusal::Mismatch,
+    )
 }
 
 // Of the fourth record, which scheme 3 has not.
-fn fourth_audited(scheme: Scheme, d: &[u8]) -> u8
-    ensures { result ≡ of_fourth scheme (audited_refusal scheme d.now) }
+#[tactic(auto, unfolding(crate::specs::Comparable::of_fourth))]
+fn check_fourth_audited(scheme: Scheme, d: &[u8]) -> Result<(), Refusal>
+    ensures { number_of result ≡ of_fourth scheme (audited_refusal scheme d.now) }
 {
     match scheme {
-        Scheme::ThreePass => 0,
-        Scheme::FivePass => audited_refusal(scheme, d),
+        Scheme::ThreePass => Ok(()),
+        Scheme::FivePass => check_audited(scheme, d),
     }
 }
 
-// The refusal of each record in turn, 0 for none; it ends at the first.
-fn readings_refusal<'a>(scheme: Scheme, a: &'a [u8], b: &'a [u8], c: &'a [u8], d: &'a [u8]) -> u8
-    ensures { result ≡ (audited_refusal scheme a.now or_else audited_refusal scheme b.now or_else audited_refusal scheme c.now
-        or_else of_fourth scheme (audited_refusal scheme d.now)) }
-{
-    let of_a = audited_refusal(scheme, a);
-    if of_a != 0 {
-        return of_a;
-    }
-    let of_b = audited_refusal(scheme, b);
-    if of_b != 0 {
-        return of_b;
-    }
-    let of_c = audited_refusal(scheme, c);
-    if of_c != 0 {
-        return of_c;
-    }
-    fourth_audited(scheme, d)
-}
-
-// 7 where the fourth record, which scheme 3 has not, differs from the first.
-fn fourth_difference<'a>(scheme: Scheme, a: &'a [u8], d: &'a [u8]) -> u8
-    ensures { result ≡ of_fourth scheme (difference_refusal a.now d.now) }
+// Refuses a fourth record, which scheme 3 has not, that differs from the first.
+#[tactic(auto, unfolding(crate::specs::Comparable::of_fourth))]
+fn check_fourth_alike(scheme: Scheme, a: &[u8], d: &[u8]) -> Result<(), Refusal>
+    ensures { number_of result ≡ of_fourth scheme (difference_refusal a.now d.now) }
 {
     match scheme {
-        Scheme::ThreePass => 0,
-        Scheme::FivePass => difference_refusal(a, d),
+        Scheme::ThreePass => Ok(()),
+        Scheme::FivePass => check_alike(a, d),
     }
 }
 
-// 7 where the system has other sizes or a record differs from the first; it ends at the first.
-fn differing_refusal<'a>(
+// The checked system, or the refusal before any round is judged; it ends at the first.
+#[tactic(auto, using(refusal::proofs::Answers::chain), unfolding(crate::specs::Comparable::comparable_refusal))]
+pub fn check_comparable<'a>(
     scheme: Scheme,
     system: &'a [u8],
-    a: &'a [u8],
-    b: &'a [u8],
-    c: &'a [u8],
-    d: &'a [u8],
-) -> u8
-    ensures { result ≡ (fit_refusal system.now a.now or_else difference_refusal a.now b.now or_else
-        difference_refusal a.now c.now or_else of_fourth scheme (difference_refusal a.now d.now)) }
+    a: &[u8],
+    b: &[u8],
+    c: &[u8],
+    d: &[u8],
+) -> Result<System<'a>, Refusal>
+    ensures refusal { number_of result ≡ comparable_refusal scheme system.now a.now b.now c.now d.now }
+    ensures bytes { IfOk result (λ checked. checked.bytes.now ≡ system.now) }
 {
-    let of_sizes = fit_refusal(system, a);
-    if of_sizes != 0 {
-        return of_sizes;
-    }
-    let of_b = difference_refusal(a, b);
-    if of_b != 0 {
-        return of_b;
-    }
-    let of_c = difference_refusal(a, c);
-    if of_c != 0 {
-        return of_c;
-    }
-    fourth_difference(scheme, a, d)
+    let checked = System::new(system)?;
+    check_audited(scheme, a)?;
+    check_audited(scheme, b)?;
+    check_audited(scheme, c)?;
+    check_fourth_audited(scheme, d)?;
+    check_fit(system, a)?;
+    check_alike(a, b)?;
+    check_alike(a, c)?;
+    check_fourth_alike(scheme, a, d)?;
+    Ok(checked)
 }
 
-// The refusal before any round is judged, 0 for none; it ends at the first.
-pub fn comparable_refusal<'a>(
-    scheme: Scheme,
-    system: &'a [u8],
-    a: &'a [u8],
-    b: &'a [u8],
-    c: &'a [u8],
-    d: &'a [u8],
-) -> u8
-    ensures { result ≡ comparable_refusal scheme system.now a.now b.now c.now d.now }
+// The first rejected round of a record.
+fn rejected_round(system: &System, bytes: &[u8]) -> Option<u8>
+    ensures found { counted result ≡ rejected_round system.now.bytes.now bytes.now }
+    ensures below { IfSome result (λ r. r < 255) }
 {
-    let of_system = check(system);
-    if of_system != 0 {
-        return of_system;
-    }
-    let readings = readings_refusal(scheme, a, b, c, d);
-    if readings != 0 {
-        return readings;
-    }
-    differing_refusal(scheme, system, a, b, c, d)
-}
-
-// The first rejected round of a record, counted from 1; 0 where every round is accepted.
-fn rejected_round<'a>(system: &'a [u8], bytes: &'a [u8]) -> u8
-    requires { system_refusal system.now ≡ 0 }
-    ensures { result ≡ rejected_round system.now bytes.now }
-{
-    let rounds = header_of(bytes).rounds;
-    let mut r = 0;
-    while r < rounds {
-        if accepts_round(system, bytes, r) {
-            r += 1;
-        } else {
-            return r + 1;
+    for r in 0..header_of(bytes).rounds {
+        if !accepts_round(system, bytes, r) {
+            return Some(r);
         }
     }
-    0
+    None
 }
 
-// The first record with a rejected round, and that round, both counted from 1; zeros where there is none.
+// The first record with a rejected round, and that round, both counted from 1.
 #[derive(Clone, Copy)]
 pub struct Rejection {
     pub whose: u8,
@@ -164,62 +114,61 @@ pub struct Rejection {
 }
 
 // The rejected round of the fourth record, which scheme 3 has not.
-fn fourth_rejected<'a>(scheme: Scheme, system: &'a [u8], d: &'a [u8]) -> u8
-    requires { system_refusal system.now ≡ 0 }
-    ensures { result ≡ of_fourth scheme (rejected_round system.now d.now) }
+#[tactic(auto, unfolding(crate::specs::Comparable::of_fourth))]
+fn fourth_rejected(scheme: Scheme, system: &System, d: &[u8]) -> Option<u8>
+    ensures found { counted result ≡ of_fourth scheme (rejected_round system.now.bytes.now d.now) }
+    ensures below { IfSome result (λ r. r < 255) }
 {
     match scheme {
-        Scheme::ThreePass => 0,
+        Scheme::ThreePass => None,
         Scheme::FivePass => rejected_round(system, d),
     }
 }
 
 // The same among the last two records.
-fn later_rejection<'a>(scheme: Scheme, system: &'a [u8], c: &'a [u8], d: &'a [u8]) -> Rejection
-    requires { system_refusal system.now ≡ 0 }
-    ensures { result ≡ later_rejection scheme system.now c.now d.now }
+#[tactic(auto, using(crate::proofs::Rejections::rejections), unfolding(crate::specs::Comparable::later_rejection))]
+fn later_rejection(scheme: Scheme, system: &System, c: &[u8], d: &[u8]) -> Option<Rejection>
+    ensures is { rejection_in result ≡ later_rejection scheme system.now.bytes.now c.now d.now }
+    ensures whose { IfSome result (λ rejection. 0 < rejection.whose) }
 {
-    let in_c = rejected_round(system, c);
-    if in_c != 0 {
-        return Rejection {
+    if let Some(r) = rejected_round(system, c) {
+        return Some(Rejection {
             whose: 3,
-            round: in_c,
-        };
+            round: r + 1,
+        });
     }
-    let in_d = fourth_rejected(scheme, system, d);
-    if in_d != 0 {
-        return Rejection {
+    if let Some(r) = fourth_rejected(scheme, system, d) {
+        return Some(Rejection {
             whose: 4,
-            round: in_d,
-        };
+            round: r + 1,
+        });
     }
-    Rejection { whose: 0, round: 0 }
+    None
 }
 
-pub fn first_rejection<'a>(
+#[tactic(auto, using(crate::proofs::Rejections::rejections), unfolding(crate::specs::Comparable::rejection_of))]
+pub fn first_rejection(
     scheme: Scheme,
-    system: &'a [u8],
-    a: &'a [u8],
-    b: &'a [u8],
-    c: &'a [u8],
-    d: &'a [u8],
-) -> Rejection
-    requires { system_refusal system.now ≡ 0 }
-    ensures { result ≡ rejection_of scheme system.now a.now b.now c.now d.now }
+    system: &System,
+    a: &[u8],
+    b: &[u8],
+    c: &[u8],
+    d: &[u8],
+) -> Option<Rejection>
+    ensures is { rejection_in result ≡ rejection_of scheme system.now.bytes.now a.now b.now c.now d.now }
+    ensures whose { IfSome result (λ rejection. 0 < rejection.whose) }
 {
-    let in_a = rejected_round(system, a);
-    if in_a != 0 {
-        return Rejection {
+    if let Some(r) = rejected_round(system, a) {
+        return Some(Rejection {
             whose: 1,
-            round: in_a,
-        };
+            round: r + 1,
+        });
     }
-    let in_b = rejected_round(system, b);
-    if in_b != 0 {
-        return Rejection {
+    if let Some(r) = rejected_round(system, b) {
+        return Some(Rejection {
             whose: 2,
-            round: in_b,
-        };
+            round: r + 1,
+        });
     }
     later_rejection(scheme, system, c, d)
 }

@@ -4,7 +4,7 @@ ghost use Rattle.exchange.specs.Messages.{lent_in, middle_in, reply_three_in, re
 
 use field::slot;
 use round::{Middle, ReplyFive, ReplyThree, Rhos};
-use slices::bytes32;
+use slices::bytes_at;
 
 // t1 and e1, behind α.
 #[tactic(auto, unfolding(crate::specs::Messages::middle_in))]
@@ -29,8 +29,8 @@ pub fn read_reply_three(s: &[u8], n: u8, m: u8) -> ReplyThree
         x: slot(s, 0, n),
         y: slot(s, after_x, n),
         z: slot(s, after_y, m),
-        first: bytes32(s, after_z),
-        second: bytes32(s, after_z + 32),
+        first: bytes_at(s, after_z),
+        second: bytes_at(s, after_z + 32),
     }
 }
 
@@ -41,7 +41,7 @@ pub fn read_reply_five(s: &[u8], n: u8) -> ReplyFive
 {
     ReplyFive {
         x: slot(s, 0, n),
-        rho: bytes32(s, n as usize),
+        rho: bytes_at(s, n as usize),
     }
 }
 
@@ -62,9 +62,9 @@ pub fn read_lent(s: &[u8], n: u8, m: u8) -> Lent
     let after_t0 = after_r0 + n as usize;
     let after_e0 = after_t0 + m as usize;
     let rhos = Rhos {
-        rho0: bytes32(s, after_e0),
-        rho1: bytes32(s, after_e0 + 32),
-        rho2: bytes32(s, after_e0 + 64),
+        rho0: bytes_at(s, after_e0),
+        rho1: bytes_at(s, after_e0 + 32),
+        rho2: bytes_at(s, after_e0 + 64),
     };
     Lent {
         r0: slot(s, 0, n),

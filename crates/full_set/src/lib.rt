@@ -4,89 +4,67 @@
 #![tactic(auto)]
 
 ghost use Rattle.std.specs.Prelude.{◌≡◌, ◌||◌, eqb};
+ghost use Rattle.refusal.specs.Refusal.{counted};
 ghost use Rattle.full_set.specs.FullSet.{answering as answering_of, full_three, asked_both, full_five, full_set, first_full};
 
 use record::header_of;
 use scheme::Scheme;
-use slices::{byte_at, equal};
+use slices::byte_at;
 use transcript::{round_challenge, round_turn};
 
 // The first of three records whose challenge in a round is the one given, the last where it is no other's.
+#[tactic(auto, unfolding(crate::specs::FullSet::answering))]
 pub fn answering<'a>(a: &'a [u8], b: &'a [u8], c: &'a [u8], r: u8, challenge: u8) -> &'a [u8]
     ensures { result.now ≡ answering_of a.now b.now c.now r challenge }
 {
     if round_challenge(a, r) == challenge {
-        return a;
+        a
+    } else if round_challenge(b, r) == challenge {
+        b
+    } else {
+        c
     }
-    if round_challenge(b, r) == challenge {
-        return b;
-    }
-    c
 }
 
 // Whether one of three challenges is the one given.
 fn is_one_of(x: u8, y: u8, z: u8, challenge: u8) -> bool
     ensures { result ≡ (eqb x challenge || (eqb y challenge || eqb z challenge)) }
 {
-    if x == challenge {
-        return true;
-    }
-    if y == challenge {
-        return true;
-    }
-    z == challenge
+    x == challenge || y == challenge || z == challenge
 }
 
 // Three passes: challenges 0, 1, 2 in any order. Each record is asked once.
-fn full_three<'a>(a: &'a [u8], b: &'a [u8], c: &'a [u8], r: u8) -> bool
+#[tactic(auto, using(crate::proofs::Asked::one_has_it), unfolding(crate::specs::FullSet::full_three))]
+fn full_three(a: &[u8], b: &[u8], c: &[u8], r: u8) -> bool
     ensures { result ≡ full_three a.now b.now c.now r }
 {
     let x = round_challenge(a, r);
     let y = round_challenge(b, r);
     let z = round_challenge(c, r);
-    if is_one_of(x, y, z, 0) {
-        if is_one_of(x, y, z, 1) {
-            is_one_of(x, y, z, 2)
-        } else {
-            false
-        }
-    } else {
-        false
-    }
+    is_one_of(x, y, z, 0) && is_one_of(x, y, z, 1) && is_one_of(x, y, z, 2)
 }
 
 // Five passes: challenges 0, 1 after equal α, t1, e1.
-fn asked_both<'a>(x: &'a [u8], y: &'a [u8], r: u8) -> bool
+#[tactic(auto, using(slices::proofs::Sameness::pointwise_same), unfolding(crate::specs::FullSet::asked_both))]
+fn asked_both(x: &[u8], y: &[u8], r: u8) -> bool
     ensures { result ≡ asked_both x.now y.now r }
 {
-    if round_challenge(x, r) == 0 {
-        if round_challenge(y, r) == 1 {
-            equal(round_turn(x, r), round_turn(y, r))
-        } else {
-            false
-        }
-    } else {
-        false
-    }
+    round_challenge(x, r) == 0 && round_challenge(y, r) == 1 && round_turn(x, r) == round_turn(y, r)
 }
 
 // Five passes: both challenges after each of two different α.
-fn full_five<'a>(a: &'a [u8], b: &'a [u8], c: &'a [u8], d: &'a [u8], r: u8) -> bool
+#[tactic(auto, unfolding(crate::specs::FullSet::full_five))]
+fn full_five(a: &[u8], b: &[u8], c: &[u8], d: &[u8], r: u8) -> bool
     ensures { result ≡ full_five a.now b.now c.now d.now r }
 {
-    if asked_both(a, b, r) {
-        if asked_both(c, d, r) {
-            byte_at(round_turn(a, r), 0) != byte_at(round_turn(c, r), 0)
-        } else {
-            false
-        }
-    } else {
-        false
-    }
+    asked_both(a, b, r)
+        && asked_both(c, d, r)
+        && byte_at(round_turn(a, r), 0) != byte_at(round_turn(c, r), 0)
 }
 
 // Whether a round has the full set of its scheme.
-fn full_set<'a>(scheme: Scheme, a: &'a [u8], b: &'a [u8], c: &'a [u8], d: &'a [u8], r: u8) -> bool
+#[tactic(auto, unfolding(crate::specs::FullSet::full_set))]
+fn full_set(scheme: Scheme, a: &[u8], b: &[u8], c: &[u8], d: &[u8], r: u8) -> bool
     ensures { result ≡ full_set scheme a.now b.now c.now d.now r }
 {
     match scheme {
@@ -95,18 +73,18 @@ fn full_set<'a>(scheme: Scheme, a: &'a [u8], b: &'a [u8], c: &'a [u8], d: &'a [u
     }
 }
 
-// The first round with a full set, counted from 1; 0 where there is none.
-pub fn first_full<'a>(scheme: Scheme, a: &'a [u8], b: &'a [u8], c: &'a [u8], d: &'a [u8]) -> u8
-    ensures { result ≡ first_full scheme a.now b.now c.now d.now }
+// The first round with a full set. The round is what the loop yields by its break, which a `for` has not.
+pub fn first_full(scheme: Scheme, a: &[u8], b: &[u8], c: &[u8], d: &[u8]) -> Option<u8>
+    ensures { counted result ≡ first_full scheme a.now b.now c.now d.now }
 {
     let rounds = header_of(a).rounds;
     let mut r = 0;
     loop {
         if r == rounds {
-            break 0;
+            break None;
         }
         if full_set(scheme, a, b, c, d, r) {
-            break r + 1;
+            break Some(r);
         }
         r += 1;
     }

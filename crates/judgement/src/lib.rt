@@ -13,7 +13,7 @@ ghost use Rattle.round.specs.FivePass.{openings_five};
 
 use commitment::{Domain, Text, digest};
 use round::{Middle, ReplyFive, ReplyThree, first_opening, opening_five, second_opening};
-use slices::bytes32;
+use slices::bytes_at;
 use system::System;
 
 // Whether a string hashes to commitment k.
@@ -22,7 +22,7 @@ fn opens(t: Text, commitments: &[u8], k: u8) -> bool
     requires { Room 0 t }
     ensures { result ≡ same (sha256 (content t)) (commitment_at commitments.now k) }
 {
-    digest(t) == bytes32(commitments, 32 * usize::from(k))
+    digest(t) == bytes_at(commitments, 32 * usize::from(k))
 }
 
 // Three passes: both openings.

@@ -4,7 +4,6 @@
 #![tactic(auto)]
 
 ghost use Rattle.std.specs.Prelude.{◌≡◌};
-ghost use Rattle.system.specs.System.{system_refusal};
 ghost use Rattle.scheme.specs.declared.Scheme.TheVariants.{ThreePass, FivePass};
 ghost use Rattle.commitment.specs.Texts.{content, TextOf};
 ghost use Rattle.round.specs.Openings.{string_of, opening_of};
@@ -18,20 +17,20 @@ use field::{add_vectors, slot};
 use record::header_of;
 use round::{ReplyThree, first_number, first_opening, opening_five, second_opening};
 use scheme::Scheme;
-use slices::{byte_at, equal, part};
+use slices::{byte_at, part};
+use system::System;
 use transcript::{domain_in, key_vector, round_challenge, round_reply, round_turn};
 
 // Three passes: the string with which a reply opens commitment k.
 fn opening_three(
-    system: &[u8],
+    system: &System,
     d: Domain,
     v: [u8; 96],
     challenge: u8,
     reply: ReplyThree,
     k: u8,
 ) -> Text
-    requires { system_refusal system.now ≡ 0 }
-    ensures { TextOf (string_of d (opening_of k (openings_three system.now v challenge reply))) 0 result }
+    ensures { TextOf (string_of d (opening_of k (openings_three system.now.bytes.now v challenge reply))) 0 result }
 {
     if k == first_number(challenge) {
         first_opening(system, d, v, challenge, reply)
@@ -41,12 +40,12 @@ fn opening_three(
 }
 
 // Three passes: the string with which a round of a record opens commitment k.
-fn opening_three_in<'a>(system: &'a [u8], bytes: &'a [u8], r: u8, k: u8) -> Text
-    requires { (system_refusal system.now ≡ 0) × ((header_in bytes.now).scheme ≡ ThreePass) }
-    ensures { TextOf (string_in system.now bytes.now r k) 0 result }
+fn opening_three_in(system: &System, bytes: &[u8], r: u8, k: u8) -> Text
+    requires { (header_in bytes.now).scheme ≡ ThreePass }
+    ensures { TextOf (string_in system.now.bytes.now bytes.now r k) 0 result }
 {
-    let n = byte_at(system, 1);
-    let m = byte_at(system, 2);
+    let n = system.n();
+    let m = system.m();
     opening_three(
         system,
         domain_in(bytes),
@@ -58,12 +57,12 @@ fn opening_three_in<'a>(system: &'a [u8], bytes: &'a [u8], r: u8, k: u8) -> Text
 }
 
 // Five passes: a round opens one commitment, by its challenge.
-fn opening_five_in<'a>(system: &'a [u8], bytes: &'a [u8], r: u8, k: u8) -> Text
-    requires { (system_refusal system.now ≡ 0) × ((header_in bytes.now).scheme ≡ FivePass) }
-    ensures { TextOf (string_in system.now bytes.now r k) 0 result }
+fn opening_five_in(system: &System, bytes: &[u8], r: u8, k: u8) -> Text
+    requires { (header_in bytes.now).scheme ≡ FivePass }
+    ensures { TextOf (string_in system.now.bytes.now bytes.now r k) 0 result }
 {
-    let n = byte_at(system, 1);
-    let m = byte_at(system, 2);
+    let n = system.n();
+    let m = system.m();
     let turn = round_turn(bytes, r);
     opening_five(
         system,
@@ -77,13 +76,10 @@ fn opening_five_in<'a>(system: &'a [u8], bytes: &'a [u8], r: u8, k: u8) -> Text
 }
 
 // The string with which a round of a record opens commitment k.
-pub fn opened_string<'a>(system: &'a [u8], bytes: &'a [u8], r: u8, k: u8) -> Text
-    requires { system_refusal system.now ≡ 0 }
-    ensures { TextOf (string_in system.now bytes.now r k) 0 result }
+pub fn opened_string(system: &System, bytes: &[u8], r: u8, k: u8) -> Text
+    ensures { TextOf (string_in system.now.bytes.now bytes.now r k) 0 result }
 {
-    let h = header_of(bytes);
-    let scheme = h.scheme;
-    match scheme {
+    match header_of(bytes).scheme {
         Scheme::ThreePass => opening_three_in(system, bytes, r, k),
         Scheme::FivePass => opening_five_in(system, bytes, r, k),
     }
@@ -96,26 +92,25 @@ pub fn same_vectors(d: Domain, x: Text, y: Text) -> bool
     let first = x.bytes;
     let second = y.bytes;
     let at = vectors_at(d);
-    equal(
-        part(part(&first, 0, x.len), at, x.len),
-        part(part(&second, 0, y.len), at, y.len),
-    )
+    part(part(&first, 0, x.len), at, x.len) == part(part(&second, 0, y.len), at, y.len)
 }
 
 // The first vector of a reply: r0 to challenge 0, r1 to challenge 1.
-fn reply_vector<'a>(system: &'a [u8], bytes: &'a [u8], r: u8) -> [u8; 96]
-    ensures { result ≡ reply_vector system.now bytes.now r }
+#[tactic(auto, unfolding(crate::specs::Openings::reply_vector))]
+fn reply_vector(system: &System, bytes: &[u8], r: u8) -> [u8; 96]
+    ensures { result ≡ reply_vector system.now.bytes.now bytes.now r }
 {
-    slot(round_reply(bytes, r), 0, byte_at(system, 1))
+    slot(round_reply(bytes, r), 0, system.n())
 }
 
 // s = r0 + r1, from a reply to challenge 0 and one to challenge 1.
-pub fn secret<'a>(system: &'a [u8], zero: &'a [u8], one: &'a [u8], r: u8) -> [u8; 96]
-    ensures { result ≡ secret_of system.now zero.now one.now r }
+#[tactic(auto, unfolding(crate::specs::Openings::secret_of))]
+pub fn secret(system: &System, zero: &[u8], one: &[u8], r: u8) -> [u8; 96]
+    ensures { result ≡ secret_of system.now.bytes.now zero.now one.now r }
 {
     add_vectors(
-        byte_at(system, 0),
-        byte_at(system, 1),
+        system.q(),
+        system.n(),
         reply_vector(system, zero, r),
         reply_vector(system, one, r),
     )

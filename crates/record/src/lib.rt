@@ -14,7 +14,7 @@ ghost use Rattle.record.specs.Reader.{record_refusal};
 use field::all_below;
 use record_form::{Body, Check, Header, Layout, check_exchanges};
 use refusal::{Refusal, require};
-use scheme::is_scheme;
+use scheme::Scheme;
 use slices::{byte_at, part};
 
 // The values behind the edition.
@@ -55,7 +55,7 @@ pub fn read(bytes: &[u8]) -> Result<Layout, Refusal>
     let h = header_of(bytes);
     require(30 <= bytes.len(), Refusal::Form)?;
     require(byte_at(bytes, 0) == 1, Refusal::Form)?;
-    require(is_scheme(byte_at(bytes, 1)), Refusal::Value)?;
+    Scheme::try_from(byte_at(bytes, 1))?;
     require(h.are_values(), Refusal::Value)?;
     require(table_matches(bytes, h), Refusal::Form)?;
     require(bytes.len() == h.record_length(), Refusal::Form)?;

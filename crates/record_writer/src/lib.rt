@@ -12,7 +12,7 @@ ghost use Rattle.record_writer.specs.Writer.{fields_of, write_refusal};
 use field::all_below;
 use record_form::{Check, Header, check_exchanges};
 use refusal::{Refusal, require};
-use scheme::is_scheme;
+use scheme::Scheme;
 use slices::put;
 
 // What a record holds: the key, and the commitments and exchanges of all rounds.
@@ -31,7 +31,7 @@ impl<'a> Contents<'a> {
         ensures { number_of result ≡ write_refusal scheme (fields_of self.now.header self.now.key.now self.now.commitments.now self.now.exchanges.now) out_len }
     {
         let h = self.header;
-        require(is_scheme(scheme), Refusal::Value)?;
+        Scheme::try_from(scheme)?;
         require(h.are_values(), Refusal::Value)?;
         let l = h.layout();
         require(self.key.len() == l.key.length, Refusal::Length)?;

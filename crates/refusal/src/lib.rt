@@ -3,7 +3,7 @@
 #![tactic(auto)]
 
 ghost use Rattle.std.specs.Prelude.{◌≡◌};
-ghost use Rattle.refusal.specs.Refusal.{unless as unless_of, ◌or_else◌, number, number_of};
+ghost use Rattle.refusal.specs.Refusal.{unless, number, number_of};
 
 use std::error::Error;
 use std::fmt;
@@ -59,7 +59,7 @@ impl Error for Refusal {}
 // Refuses where the test fails.
 #[tactic(auto, unfolding(crate::specs::Refusal::unless))]
 pub fn require(test: bool, refusal: Refusal) -> Result<(), Refusal>
-    ensures { number_of result ≡ unless_of test (number refusal) }
+    ensures { number_of result ≡ unless test (number refusal) }
 {
     if test { Ok(()) } else { Err(refusal) }
 }
@@ -72,18 +72,4 @@ pub fn number_of<T: Drop>(answer: Result<T, Refusal>) -> u8
         Ok(_) => 0,
         Err(refusal) => u8::from(refusal),
     }
-}
-
-// The number where the test fails.
-pub fn unless(test: bool, number: u8) -> u8
-    ensures { result ≡ unless_of test number }
-{
-    if test { 0 } else { number }
-}
-
-// The first of two that is no 0.
-pub fn first(refusal: u8, later: u8) -> u8
-    ensures { result ≡ (refusal or_else later) }
-{
-    if refusal == 0 { later } else { refusal }
 }

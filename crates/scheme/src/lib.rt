@@ -45,18 +45,7 @@ impl TryFrom<u8> for Scheme {
     }
 }
 
-// The byte of a scheme.
-#[tactic(auto, unfolding(crate::specs::Scheme::byte_of))]
-pub fn byte_of(scheme: Scheme) -> u8
-    ensures { result ≡ byte_of scheme }
-{
-    match scheme {
-        Scheme::ThreePass => 3,
-        Scheme::FivePass => 5,
-    }
-}
-
-// The scheme of a byte; of a byte that is no scheme's, five passes, which `is_scheme` tells.
+// The scheme of a byte; of a byte that is no scheme's, five passes: a header of any bytes is read before it is refused.
 #[tactic(auto, unfolding(crate::specs::Scheme::scheme_of))]
 pub fn scheme_of(byte: u8) -> Scheme
     ensures { result ≡ scheme_of byte }
@@ -65,14 +54,6 @@ pub fn scheme_of(byte: u8) -> Scheme
         3 => Scheme::ThreePass,
         _ => Scheme::FivePass,
     }
-}
-
-// Whether a byte is a scheme's.
-#[tactic(auto, unfolding(crate::specs::Scheme::is_scheme))]
-pub fn is_scheme(byte: u8) -> bool
-    ensures { result ≡ is_scheme byte }
-{
-    byte_of(scheme_of(byte)) == byte
 }
 
 // Whether a session has so many rounds: a byte is at most 255.

@@ -1,5 +1,5 @@
 -- The test `same` and equality of lists. Assumes nothing.
-use Prim.Native.Nat.{ℕ, ◌+◌, ◌<◌}
+use Prim.Native.Nat.{ℕ, ◌<◌}
 use mathlib.Core.Path.{◌≡◌, refl, sym, ap, ap₂, ◌∙◌}
 use mathlib.Core.Bool.{Bool, true, false, false≢true, ◌&&◌}
 use mathlib.Core.List.{List, [], ◌∷◌}
@@ -7,7 +7,6 @@ use lib.Dec.{eqb}
 use lib.ListN.{length}
 use lib.Pointwise.{pointwise}
 use lib.Seq.{ext_get_or}
-use borrow.Author.Count.{below_none, below_more}
 use borrow.Author.Tests.{eqb-true, eq-eqb}
 use Rattle.slices.specs.Slices.{◌!◌, same}
 use Rattle.slices.proofs.Booleans.{and_left, and_right}
@@ -52,24 +51,3 @@ same_differs l k i differ = go (same l k) refl
     go : (t : Bool) → same l k ≡ t → same l k ≡ false
     go true e = absurd (differ (ap (λ (m : List ℕ). m ! i) (same_true l k e)))
     go false e = e
-
--- ---- a loop that compares two lists place by place
-
--- what it has said of the places before i
-abbrev pub Said : List ℕ → List ℕ → ℕ → Bool → Type 0
-Said l k i alike = (alike ≡ true → (j : ℕ) → j < i → l ! j ≡ k ! j) × (alike ≡ false → same l k ≡ false)
-
-pub said_none : (l k : List ℕ) → Said l k 0 true
-said_none l k = (λ e. below_none _, λ e. absurd (false≢true (sym e)))
-
--- they differ at i
-pub said_differ : (l k : List ℕ) (i j : ℕ) (alike : Bool) → alike ≡ false → (l ! i ≡ k ! i → ⊥) → Said l k j alike
-said_differ l k i j alike is differ = (λ e. absurd (false≢true (sym is ∙ e)), λ e. same_differs l k i differ)
-
--- they agree there, and what was said stays
-pub said_agree : (l k : List ℕ) (i : ℕ) (before alike : Bool) → Said l k i before → alike ≡ before → l ! i ≡ k ! i → Said l k (i + 1) alike
-said_agree l k i before alike said is agree = (λ e. below_more _ i (said.0 (sym is ∙ e)) agree, λ e. said.1 (sym is ∙ e))
-
-pub said_all : (l k : List ℕ) (i : ℕ) (alike : Bool) → length l ≡ i → length k ≡ i → Said l k i alike → alike ≡ same l k
-said_all l k i true hl hk said = sym (same_each l k i hl hk (said.0 refl))
-said_all l k i false hl hk said = sym (said.1 refl)

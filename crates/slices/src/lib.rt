@@ -29,43 +29,12 @@ pub fn bytes_at<const N: usize>(s: &[u8], at: usize) -> [u8; N]
     out
 }
 
-// The 32 bytes from `at` on, zero beyond the end.
-pub fn bytes32(s: &[u8], at: usize) -> [u8; 32]
-    ensures { result ≡ tabulate 32 (λ i. s.now ! (at + i)) }
-{
-    bytes_at(s, at)
-}
-
-// Whether two lists of 32 bytes are the same.
-pub fn same32(a: [u8; 32], b: [u8; 32]) -> bool
-    ensures { result ≡ same a b }
-{
-    let mut place = 0;
-    while place < 32 {
-        if a[place] != b[place] {
-            return false;
-        }
-        place += 1;
-    }
-    true
-}
-
-// Whether two slices hold the same bytes; with no early exit, so that many are compared at a time.
-pub fn equal<'a>(a: &'a [u8], b: &'a [u8]) -> bool
+// Whether two slices hold the same bytes.
+#[tactic(auto, using(crate::proofs::Sameness::pointwise_same))]
+pub fn equal(a: &[u8], b: &[u8]) -> bool
     ensures { result ≡ same a.now b.now }
 {
-    if a.len() != b.len() {
-        return false;
-    }
-    let mut alike = true;
-    let mut i = 0;
-    while i < a.len() {
-        if a[i] != b[i] {
-            alike = false;
-        }
-        i += 1;
-    }
-    alike
+    a == b
 }
 
 // At most `count` bytes from `at` on: what there is of them.

@@ -22,17 +22,17 @@ answer scheme system a b c d r count found is e = e ∙ ap (λ (n : ℕ). first_
 
 pub loop-k-init : goal.loop-k-init
 loop-k-init c =
-    (where_start _ _ (omega arith), omega arith, omega arith)
+    where_start _ _ (omega arith)
 
 pub loop-k-preserved : goal.loop-k-preserved
 loop-k-preserved c =
-    (where_step _ _ _ _ c.loop-k.invariant.0 (ap not c.same_pair.ensures) (ap not c.if-same_pair.true) refl, omega arith, omega arith)
+    where_step _ _ _ _ c.loop-k.invariant (ap not c.same_pair.ensures) (ap not c.if-not-same_pair.false) (omega arith)
 
-pub returns-else-same_pair : goal.returns-else-same_pair
-returns-else-same_pair c =
-    answer _ _ _ _ _ _ _ _ _ c.commitment_count-count.ensures.0
-    (where_here _ _ _ _ c.loop-k.invariant.0 (ap not c.same_pair.ensures) (ap not c.if-same_pair.false) (omega (arith, c.loop-k-test.true)))
+pub returns-then-not-same_pair : goal.returns-then-not-same_pair
+returns-then-not-same_pair c =
+    answer _ _ _ _ _ _ _ _ _ c.commitment_count-k-end.ensures.0
+    (where_here _ _ _ _ c.loop-k.invariant (ap not c.same_pair.ensures) (ap not c.if-not-same_pair.true) (omega (arith, c.loop-k-test.true)))
 
 pub returns : goal.returns
 returns c =
-    answer _ _ _ _ _ _ _ _ _ c.commitment_count-count.ensures.0 (where_end _ _ _ c.loop-k.invariant.0 c.loop-k.invariant.1 (omega (arith, c.loop-k-test.false)))
+    answer _ _ _ _ _ _ _ _ _ c.commitment_count-k-end.ensures.0 (where_end _ _ _ c.loop-k.invariant (omega arith) (omega (arith, c.loop-k-test.false)))

@@ -1,5 +1,5 @@
 -- No pair before k differs.
-use Prim.Native.Nat.{ℕ, ◌-◌, ◌≤◌}
+use Prim.Native.Nat.{ℕ}
 use mathlib.Core.Path.{◌≡◌}
 use mathlib.Core.Bool.{Bool, not}
 use mathlib.Core.List.{List}
@@ -13,7 +13,4 @@ abbrev Differs : Scheme → List ℕ → List ℕ → List ℕ → List ℕ → 
 Differs scheme system a b c d r k = not (same_pair scheme system a b c d r k)
 
 abbrev pub invariant-loop-k : goal.invariant-loop-k
-invariant-loop-k l = (first_where l.k (Differs l.scheme l.system l.a l.b l.c l.d l.r) ≡ 0) × (l.k ≤ l.count) × (l.count ≤ 255)
-
-abbrev pub decreases-loop-k : goal.decreases-loop-k
-decreases-loop-k l = l.count - l.k
+invariant-loop-k l = first_where l.k (Differs l.scheme l.system.bytes.now l.a l.b l.c l.d l.r) ≡ 0

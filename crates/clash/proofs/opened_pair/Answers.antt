@@ -12,6 +12,6 @@ unfolding left_string right_string
 returns c =
     let a = c.args in
     record {
-      left_text = text_as _ _ 0 _ c.opened_string-left.ensures (ap (λ (b : List ℕ). string_in a.system.now b a.r a.k) c.left_record.ensures);
-      right_text = text_as _ _ 0 _ c.opened_string-right.ensures (ap (λ (b : List ℕ). string_in a.system.now b a.r a.k) c.right_record.ensures);
+      left_text = text_as _ _ 0 _ c.opened_string-left.ensures (ap (λ (b : List ℕ). string_in a.system.now.bytes.now b a.r a.k) c.left_record.ensures);
+      right_text = text_as _ _ 0 _ c.opened_string-right.ensures (ap (λ (b : List ℕ). string_in a.system.now.bytes.now b a.r a.k) c.right_record.ensures);
     }

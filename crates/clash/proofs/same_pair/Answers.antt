@@ -19,4 +19,4 @@ tested p x y d e t k domain is =
 pub returns : goal.returns
 unfolding same_pair
 returns c =
-    tested _ _ _ _ _ _ c.opened_pair-pair.ensures c.domain_in.ensures c.same_vectors.ensures
+    tested _ _ _ _ _ _ c.opened_pair.ensures c.domain_in.ensures c.same_vectors.ensures

@@ -15,7 +15,7 @@ unfolding prefix vectors_at
 returns c =
     let args = c.args in
     let long : length args.rho ≡ 32 = search rules in
-    let byte = c.byte_of-first.ensures in
+    let byte = c.from-first.ensures in
     let place = c.prefix_length.ensures.0 in
     let two = text_start _ _ ∙ ap (λ (x : ℕ). zero_beyond (x ∷ args.k ∷ [])) byte in
     record {

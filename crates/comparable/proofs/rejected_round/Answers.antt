@@ -18,16 +18,16 @@ answer system b h found is e = e ∙ ap (λ (k : Header). first_where k.rounds (
 
 pub loop-r-init : goal.loop-r-init
 loop-r-init c =
-    (where_start _ _ refl, omega arith, omega arith)
+    where_start _ _ refl
 
 pub loop-r-preserved : goal.loop-r-preserved
 loop-r-preserved c =
-    (where_step _ _ _ _ c.loop-r.invariant.0 (ap not c.accepts_round.ensures) (ap not c.if-accepts_round.true) refl, omega arith, omega arith)
+    where_step _ _ _ _ c.loop-r.invariant (ap not c.accepts_round.ensures) (ap not c.if-not-accepts_round.false) (omega arith)
 
-pub returns-else-accepts_round : goal.returns-else-accepts_round
-returns-else-accepts_round c =
-    answer _ _ _ _ c.header_of-rounds.ensures (where_here _ _ _ _ c.loop-r.invariant.0 (ap not c.accepts_round.ensures) (ap not c.if-accepts_round.false) c.loop-r-test.true)
+pub returns-then-not-accepts_round-clause-found : goal.returns-then-not-accepts_round-clause-found
+returns-then-not-accepts_round-clause-found c =
+    answer _ _ _ _ c.header_of-r-end.ensures (where_here _ _ _ _ c.loop-r.invariant (ap not c.accepts_round.ensures) (ap not c.if-not-accepts_round.true) (omega (arith, c.loop-r-test.true)))
 
-pub returns : goal.returns
-returns c =
-    answer _ _ _ _ c.header_of-rounds.ensures (where_end _ _ _ c.loop-r.invariant.0 c.loop-r.invariant.1 c.loop-r-test.false)
+pub returns-clause-found : goal.returns-clause-found
+returns-clause-found c =
+    answer _ _ _ _ c.header_of-r-end.ensures (where_end _ _ _ c.loop-r.invariant (omega arith) (omega (arith, c.loop-r-test.false)))

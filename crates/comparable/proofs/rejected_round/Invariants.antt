@@ -1,5 +1,5 @@
 -- Every round before r is accepted.
-use Prim.Native.Nat.{ℕ, ◌-◌, ◌≤◌}
+use Prim.Native.Nat.{ℕ}
 use mathlib.Core.Path.{◌≡◌}
 use mathlib.Core.Bool.{Bool, not}
 use mathlib.Core.List.{List}
@@ -11,7 +11,4 @@ abbrev pub Rejects : List ℕ → List ℕ → ℕ → Bool
 Rejects system b r = not (accepted_round system b r)
 
 abbrev pub invariant-loop-r : goal.invariant-loop-r
-invariant-loop-r l = (first_where l.r (Rejects l.system l.bytes) ≡ 0) × (l.r ≤ l.rounds) × (l.rounds ≤ 255)
-
-abbrev pub decreases-loop-r : goal.decreases-loop-r
-decreases-loop-r l = l.rounds - l.r
+invariant-loop-r l = first_where l.r (Rejects l.system.bytes.now l.bytes) ≡ 0

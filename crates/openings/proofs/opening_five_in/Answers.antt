@@ -6,4 +6,4 @@ use Rattle.openings.proofs.opening_five_in.Goals as goal
 pub returns : goal.returns
 returns c =
     text_as _ _ 0 _ c.opening_five.ensures
-    (simp (c.read_reply_five.ensures, c.round_reply.ensures, c.round_challenge.ensures, c.read_middle.ensures, c.key_vector.ensures, c.byte_at.ensures, c.domain_in.ensures, c.round_turn-turn.ensures, c.byte_at-m.ensures, c.byte_at-n.ensures) (five_in _ _ _ _ c.requires.1))
+    (simp (c.read_reply_five.ensures, c.round_reply.ensures, c.round_challenge.ensures, c.read_middle.ensures, c.key_vector.ensures, c.byte_at.ensures, c.domain_in.ensures, c.round_turn-turn.ensures, c.m-m.ensures, c.n-n.ensures) (five_in _ _ _ _ c.requires))

@@ -6,4 +6,4 @@ use Rattle.openings.proofs.opening_three_in.Goals as goal
 pub returns : goal.returns
 returns c =
     text_as _ _ 0 _ c.opening_three.ensures
-    (simp (c.read_reply_three.ensures, c.round_reply.ensures, c.round_challenge.ensures, c.key_vector.ensures, c.domain_in.ensures, c.byte_at-m.ensures, c.byte_at-n.ensures) (three_in _ _ _ _ c.requires.1))
+    (simp (c.read_reply_three.ensures, c.round_reply.ensures, c.round_challenge.ensures, c.key_vector.ensures, c.domain_in.ensures, c.m-m.ensures, c.n-n.ensures) (three_in _ _ _ _ c.requires))

@@ -7,6 +7,7 @@ use native.Mathlib.Omega.{arith}
 use lib.ListN.{take, drop, length-take, length-drop}
 use lib.Seq.{take_all}
 use Rattle.slices.specs.Slices.{same}
+use Rattle.slices.proofs.Sameness.{pointwise_same}
 use Rattle.commitment.specs.declared.Domain.{Domain}
 use Rattle.commitment.specs.Commitment.{vectors_at, vectors_in}
 use Rattle.openings.specs.Openings.{same_vectors}
@@ -28,4 +29,4 @@ returns c =
     let at = c.vectors_at-at.ensures.0 in
     let left = side a.d a.x.len c.vectors_at-at.result a.x.bytes _ _ c.part.ensures c.part-2.ensures at in
     let right = side a.d a.y.len c.vectors_at-at.result a.y.bytes _ _ c.part-3.ensures c.part-4.ensures at in
-    c.equal.ensures ∙ ap₂ same left right
+    c.eq.ensures ∙ pointwise_same _ _ ∙ ap₂ same left right

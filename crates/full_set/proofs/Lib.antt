@@ -1,0 +1,2 @@
+-- Which challenges three records have.
+pub mod Asked
