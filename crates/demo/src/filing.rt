@@ -1,11 +1,11 @@
 // A session's record: written, stored where an argument names a file, and reported on.
 ghost use Rattle.std.specs.Prelude.{◌≡◌, ◌≤◌, length};
 
-use crate::refused::{Refused, unless_refused};
+use crate::refused::Refused;
 use crate::terms::Terms;
 use files::{has_word, path_named, print};
 use hex_text::append_hex;
-use record_form::{header_from, laid_out, record_length};
+use record_form::Header;
 use record_writer::write;
 use reporting::{report, text_buffer};
 use slices::{part, put, zeros};
@@ -47,32 +47,31 @@ fn written(
 ) -> Result<usize, Refused>
     requires { (length system.now ≤ 65536) × (length out.old ≡ 1065536) }
 {
-    let h = header_from(t.scheme, t.q, t.n, t.m, t.rounds);
-    let l = laid_out(h);
+    let header = Header::of_bytes(t.scheme, t.q, t.n, t.m, t.rounds);
+    let layout = header.layout();
     let start = system.len();
-    let end = start + record_length(h);
+    let end = start + header.record_length();
     put(out, 0, system);
-    let number = write(
+    write(
         t.scheme,
         t.q,
         t.n,
         t.m,
         t.rounds,
         v,
-        part(commitments, 0, l.commitments.length),
-        part(exchanges, 0, l.exchanges.length),
+        part(commitments, 0, layout.commitments.length),
+        part(exchanges, 0, layout.exchanges.length),
         &mut out[start..end],
-    );
-    unless_refused(number, "record")?;
+    )
+    .map_err(|refusal| Refused::of(refusal, "record"))?;
     Ok(end)
 }
 
 // `record of 533 bytes, SHA-256` and the digest, which is left out if the record is too long for it.
 fn say_record<R: Print>(rt: &R, bytes: &[u8]) {
     let mut digest = [0u8; 32];
-    let refused = sha256::digest(bytes, &mut digest);
     let _ = print!(rt; "record of {} bytes", bytes.len());
-    if refused == 0 {
+    if sha256::digest(bytes, &mut digest).is_ok() {
         let _ = print!(rt; ", SHA-256 ");
         say_hex(rt, &digest);
     }

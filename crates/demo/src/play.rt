@@ -1,14 +1,16 @@
 // A session's calls: each message goes from the end that gives it to the other, and into the record's bodies.
 ghost use Rattle.std.specs.Prelude.{◌≡◌, ◌≤◌, length};
 
-use crate::refused::{Refused, unless_refused};
+use crate::refused::Refused;
 use crate::terms::Terms;
 use card_state::Card;
 use carrier_state::Carrier;
+use refusal::Refusal;
 use scheme::{
     commitments_length, exchange_length, has_alpha, lent_length, of_rounds, reply_length,
     turn_length,
 };
+use session_state::Answered;
 use slices::{byte_at, part, put};
 
 // Both sessions.
@@ -21,13 +23,16 @@ pub struct Ends {
 impl Ends {
     // Opens both ends.
     pub fn open(t: Terms, system: &[u8], v: &[u8], s: &[u8]) -> Result<Ends, Refused> {
-        let of_card = card::open(system, t.scheme, t.rounds, v, s);
-        unless_refused(of_card.refusal, "card open")?;
-        let of_carrier = carrier::open(system, t.scheme, t.rounds, v);
-        unless_refused(of_carrier.refusal, "carrier open")?;
+        let card = card::open(system, t.scheme, t.rounds, v, s);
+        card.answer
+            .map_err(|refusal| Refused::of(refusal, "card open"))?;
+        let carrier = carrier::open(system, t.scheme, t.rounds, v);
+        carrier
+            .answer
+            .map_err(|refusal| Refused::of(refusal, "carrier open"))?;
         Ok(Ends {
-            card: of_card.card,
-            carrier: of_carrier.carrier,
+            card: card.session,
+            carrier: carrier.session,
         })
     }
 
@@ -83,9 +88,9 @@ impl Ends {
     ) -> Result<(), Refused> {
         let lent = part(round, 0, lent_length(t.passes(), t.n, t.m));
         let sent = card::commit(self.card, system, lent, out);
-        self.card_answered(sent.card, sent.refusal, "card commit")?;
+        self.card_answered(sent, "card commit")?;
         let taken = carrier::take_commitments(self.carrier, out);
-        self.carrier_answered(taken.carrier, taken.refusal, "carrier take commitments")
+        self.carrier_answered(taken, "carrier take commitments")
     }
 
     // The carrier sets α, the card answers with t1 and e1, and the carrier takes them. All three stand at the front of an exchange.
@@ -102,11 +107,11 @@ impl Ends {
         let end = 1 + usize::from(t.n) + usize::from(t.m);
         let out = &mut exchange[1..end];
         let set = carrier::set_alpha(self.carrier, alpha);
-        self.carrier_answered(set.carrier, set.refusal, "carrier set alpha")?;
+        self.carrier_answered(set, "carrier set alpha")?;
         let sent = card::answer_alpha(self.card, system, alpha, out);
-        self.card_answered(sent.card, sent.refusal, "card answer alpha")?;
+        self.card_answered(sent, "card answer alpha")?;
         let taken = carrier::take_middle(self.carrier, out);
-        self.carrier_answered(taken.carrier, taken.refusal, "carrier take t1 and e1")
+        self.carrier_answered(taken, "carrier take t1 and e1")
     }
 
     // The carrier sets the challenge, the card replies, and the carrier takes the reply. Both stand behind the turn.
@@ -124,46 +129,46 @@ impl Ends {
         let end = at + 1 + reply_length(t.passes(), t.n, t.m);
         let out = &mut exchange[at + 1..end];
         let set = carrier::set_challenge(self.carrier, challenge);
-        self.carrier_answered(set.carrier, set.refusal, "carrier set challenge")?;
+        self.carrier_answered(set, "carrier set challenge")?;
         let sent = card::reply(self.card, challenge, out);
-        self.card_answered(sent.card, sent.refusal, "card reply")?;
+        self.card_answered(sent, "card reply")?;
         let judged = carrier::take_reply(self.carrier, system, out);
-        self.carrier_answered(judged.carrier, judged.refusal, "carrier take reply")
+        self.carrier_answered(judged, "carrier take reply")?;
+        Ok(())
     }
 
-    // The card after a call, unless that was refused.
+    // Takes the card's session after a call, where that was not refused.
     fn card_answered(
         &mut self,
-        card: Card,
-        refusal: u8,
+        answered: Answered<Card, ()>,
         call: &'static str,
     ) -> Result<(), Refused> {
-        self.in_round(refusal, call)?;
-        self.card = card;
+        answered
+            .answer
+            .map_err(|refusal| self.in_round(refusal, call))?;
+        self.card = answered.session;
         Ok(())
     }
 
-    // The carrier after a call, unless that was refused.
-    fn carrier_answered(
+    // Takes the carrier's session after a call, where that was not refused, and answers what the call did.
+    fn carrier_answered<T: Copy + Drop>(
         &mut self,
-        carrier: Carrier,
-        refusal: u8,
+        answered: Answered<Carrier, T>,
         call: &'static str,
-    ) -> Result<(), Refused> {
-        self.in_round(refusal, call)?;
-        self.carrier = carrier;
-        Ok(())
+    ) -> Result<T, Refused> {
+        let value = answered
+            .answer
+            .map_err(|refusal| self.in_round(refusal, call))?;
+        self.carrier = answered.session;
+        Ok(value)
     }
 
-    // Nothing, or what a number other than 0 refuses in the round behind those accepted.
-    fn in_round(&self, number: u8, call: &'static str) -> Result<(), Refused> {
-        if number == 0 {
-            return Ok(());
-        }
-        Err(Refused {
-            number,
+    // A refusal in the round behind those accepted.
+    fn in_round(&self, refusal: Refusal, call: &'static str) -> Refused {
+        Refused {
+            refusal,
             call,
             round: Some(u16::from(self.carrier.accepted) + 1),
-        })
+        }
     }
 }

@@ -1,7 +1,9 @@
 // The carrier's calls: each prints its word and its number, that of a reply also accept or reject.
 use carrier::{set_alpha, set_challenge, take_commitments, take_middle};
-use carrier_state::{Carrier, CarrierAnswer};
+use carrier_state::Carrier;
 use cases::{Case, Kind};
+use refusal::number_of;
+use session_state::Answered;
 
 // Makes the call, whose system, if it has one, the buffer has room for, and answers whether it agrees. A case of another kind is
 // malformed; that leaves the session.
@@ -20,16 +22,16 @@ pub fn carrier_call<R: Print>(
     }
 }
 
-// The start of the line of an answer, which is left in the session.
+// The start of the line of an answer. The session is the one that the answer hands back.
 fn said<R: Print>(
     rt: &R,
     word: &str,
     case: Case,
-    answer: CarrierAnswer,
+    answered: Answered<Carrier, ()>,
     carrier: &mut Carrier,
 ) -> bool {
-    let number = answer.refusal;
-    *carrier = answer.carrier;
+    let number = number_of(answered.answer);
+    *carrier = answered.session;
     let _ = print!(rt; "{word} {number}");
     number == case.number
 }
@@ -44,8 +46,8 @@ fn open_call<R: Print>(
     let scheme = case.pieces.byte()?;
     let rounds = case.pieces.byte()?;
     let v = case.pieces.small()?;
-    let answer = carrier::open(system, scheme, rounds, v.as_slice());
-    Some(said(rt, "carrier", case, answer, carrier))
+    let answered = carrier::open(system, scheme, rounds, v.as_slice());
+    Some(said(rt, "carrier", case, answered, carrier))
 }
 
 // The calls with one message; its first byte is α or the challenge.
@@ -53,14 +55,14 @@ fn message_call<R: Print>(rt: &R, mut case: Case, carrier: &mut Carrier) -> Opti
     let message = case.pieces.small()?;
     let byte = message.bytes[0];
     let old = *carrier;
-    let (word, answer) = match case.kind {
+    let (word, answered) = match case.kind {
         Kind::CarrierTake => ("take", take_commitments(old, message.as_slice())),
         Kind::CarrierAlpha => ("alpha", set_alpha(old, byte)),
         Kind::CarrierMiddle => ("middle", take_middle(old, message.as_slice())),
         Kind::CarrierAsk => ("ask", set_challenge(old, byte)),
         _ => return None,
     };
-    Some(said(rt, word, case, answer, carrier))
+    Some(said(rt, word, case, answered, carrier))
 }
 
 // Prints accept or reject too, which the case has as a byte, 1 or 0, and its fill where the call is refused.
@@ -74,14 +76,12 @@ fn judge_call<R: Print>(
     let reply = case.pieces.small()?;
     let expected = case.pieces.byte()?;
     let judged = carrier::take_reply(*carrier, system, reply.as_slice());
-    let number = judged.refusal;
-    *carrier = judged.carrier;
-    let (verdict, byte) = if number != 0 {
-        ("", case.fill)
-    } else if judged.accepted {
-        (" accept", 1)
-    } else {
-        (" reject", 0)
+    let number = number_of(judged.answer);
+    *carrier = judged.session;
+    let (verdict, byte) = match judged.answer {
+        Ok(true) => (" accept", 1),
+        Ok(false) => (" reject", 0),
+        Err(_) => ("", case.fill),
     };
     let _ = print!(rt; "judge {number}{verdict}");
     Some(number == case.number && expected == byte)

@@ -9,11 +9,9 @@ use session_state::Verdict;
 const SHOWN: usize = 16;
 
 // The start of an output's SHA-256.
-pub fn say_digest<R: Print>(rt: &R, out: &[u8]) {
-    let mut digest = [0u8; 32];
+pub fn say_digest<R: Print>(rt: &R, digest: &[u8; 32]) {
     let mut text = [0u8; 64];
-    sha256::digest(out, &mut digest);
-    append_hex(&mut text, 0, &digest);
+    append_hex(&mut text, 0, digest);
     files::print(rt, b" ");
     files::print(rt, &text[..SHOWN]);
 }

@@ -24,8 +24,8 @@ fn main(rt: HostRuntime) {
 
 // Makes each call in turn. Both sessions are closed at first, as after a refused opening.
 fn run<R: Print>(rt: &R, file: &[u8], system: &mut [u8]) {
-    let mut card = card::open(b"", 0, 0, b"", b"").card;
-    let mut carrier = carrier::open(b"", 0, 0, b"").carrier;
+    let mut card = card::open(b"", 0, 0, b"", b"").session;
+    let mut carrier = carrier::open(b"", 0, 0, b"").session;
     run_cases(rt, file, |case| {
         make_call(rt, case, system, &mut card, &mut carrier)
     });
