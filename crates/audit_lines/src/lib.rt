@@ -29,8 +29,8 @@ fn hex_line(text: &mut [u8], at: usize, word: &[u8], s: &[u8]) -> usize
 }
 
 // `clash 1`, then a line for each string.
-fn clash_lines(text: &mut [u8], k: u8, first: &[u8], second: &[u8]) -> usize
-    requires { (length text.old ≡ 2048) × (length first.now ≤ longest) × (length second.now ≤ longest) }
+fn clash_lines(text: &mut [u8; 2048], k: u8, first: &[u8], second: &[u8]) -> usize
+    requires { (length first.now ≤ longest) × (length second.now ≤ longest) }
     ensures { (text.new ≡ placed text.old 0 (clash_lines k first.now second.now))
         × (result ≡ length (clash_lines k first.now second.now)) × (result ≤ 2048) }
 {
@@ -41,8 +41,7 @@ fn clash_lines(text: &mut [u8], k: u8, first: &[u8], second: &[u8]) -> usize
 }
 
 // `refused 8 record 2 round 1`
-fn rejected_line(text: &mut [u8], whose: u8, round: u8) -> usize
-    requires { length text.old ≡ 2048 }
+fn rejected_line(text: &mut [u8; 2048], whose: u8, round: u8) -> usize
     ensures { (text.new ≡ placed text.old 0 (rejected_line whose round)) × (result ≡ length (rejected_line whose round)) × (result ≤ 2048) }
 {
     let next = append_numbers(text, 0, b"refused 8 record ", whose, b" round ", round);
@@ -50,8 +49,7 @@ fn rejected_line(text: &mut [u8], whose: u8, round: u8) -> usize
 }
 
 // The line of a refusal.
-fn refusal_line(text: &mut [u8], number: u8, whose: u8, round: u8) -> usize
-    requires { length text.old ≡ 2048 }
+fn refusal_line(text: &mut [u8; 2048], number: u8, whose: u8, round: u8) -> usize
     ensures { (text.new ≡ placed text.old 0 (refusal_line number whose round)) × (result ≡ length (refusal_line number whose round))
         × (result ≤ 2048) }
 {
@@ -63,37 +61,29 @@ fn refusal_line(text: &mut [u8], number: u8, whose: u8, round: u8) -> usize
 }
 
 // The text of what an audit answers, where the system's n is given.
-pub fn audit_text(audited: Audited, n: u8, text: &mut [u8]) -> usize
-    requires { length text.old ≡ 2048 }
+pub fn audit_text(audited: Audited, n: u8, text: &mut [u8; 2048]) -> usize
     ensures { (text.new ≡ placed text.old 0 (audit_text n (outcome_of audited))) × (result ≡ length (audit_text n (outcome_of audited)))
         × (result ≤ 2048) }
 {
-    let finding = audited.finding;
     let secret = audited.secret;
-    let first = audited.first;
-    let second = audited.second;
-    match finding {
-        Finding::Secret => hex_line(text, 0, b"secret ", part(&secret, 0, n as usize)),
-        Finding::Clash(k) => both_strings(text, k, first, second),
+    match audited.finding {
+        Finding::Secret => hex_line(text, 0, b"secret ", part(&secret, 0, usize::from(n))),
+        Finding::Clash(k) => both_strings(text, k, audited.first, audited.second),
         Finding::Refused(number, whose, round) => refusal_line(text, number, whose, round),
     }
 }
 
 // The lines of a clash, each string as long as it says.
-fn both_strings(text: &mut [u8], k: u8, first: Text, second: Text) -> usize
-    requires { length text.old ≡ 2048 }
+fn both_strings(text: &mut [u8; 2048], k: u8, first: Text, second: Text) -> usize
     ensures { (text.new ≡ placed text.old 0 (clash_lines k (content first) (content second)))
         × (result ≡ length (clash_lines k (content first) (content second))) × (result ≤ 2048) }
 {
-    let first_length = first.len;
-    let first_bytes = first.bytes;
-    let second_length = second.len;
-    let second_bytes = second.bytes;
+    let (first_bytes, second_bytes) = (first.bytes, second.bytes);
     clash_lines(
         text,
         k,
-        part(&first_bytes, 0, first_length),
-        part(&second_bytes, 0, second_length),
+        part(&first_bytes, 0, first.len),
+        part(&second_bytes, 0, second.len),
     )
 }
 
@@ -108,11 +98,11 @@ pub struct Lengths {
 
 // The text of an audit of scheme 3, of files that lie at the front of buffers. Any lengths are taken: what there is of a file is
 // audited.
-pub fn three_text<'a>(
-    system: &'a [u8],
-    a: &'a [u8],
-    b: &'a [u8],
-    c: &'a [u8],
+pub fn three_text(
+    system: &[u8],
+    a: &[u8],
+    b: &[u8],
+    c: &[u8],
     lengths: Lengths,
     text: &mut [u8; 2048],
 ) -> usize
@@ -129,12 +119,12 @@ pub fn three_text<'a>(
 }
 
 // The same of scheme 5.
-pub fn five_text<'a>(
-    system: &'a [u8],
-    a: &'a [u8],
-    b: &'a [u8],
-    c: &'a [u8],
-    d: &'a [u8],
+pub fn five_text(
+    system: &[u8],
+    a: &[u8],
+    b: &[u8],
+    c: &[u8],
+    d: &[u8],
     lengths: Lengths,
     d_length: usize,
     text: &mut [u8; 2048],

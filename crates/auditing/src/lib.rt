@@ -5,16 +5,18 @@
 #![tactic(auto)]
 
 ghost use Rattle.std.specs.Prelude.{◌≡◌};
-ghost use Rattle.system.specs.System.{system_refusal};
+ghost use Rattle.refusal.specs.Refusal.{number};
 ghost use Rattle.auditing.specs.Outcome.{refused as Outcome·refused, clashed as Outcome·clashed, Answers};
 ghost use Rattle.auditing.specs.Audit.{clash_at, secret_in, secret_at, search_of, audit_of, audit_three, audit_five};
 
-use clash::{first_clash, opened_pair};
+use clash::{Pair, first_clash, opened_pair};
 use commitment::{Text, empty};
-use comparable::{comparable_refusal, first_rejection};
+use comparable::{Rejection, check_comparable, first_rejection};
 use full_set::{answering, first_full};
 use openings::secret;
+use refusal::Refusal;
 use scheme::Scheme;
+use system::System;
 
 // What an audit finds: the secret; commitment k opened with different vectors; or nothing, by the refusal's number with
 // the record and the round, which are 0 but where a round is rejected.
@@ -35,11 +37,11 @@ pub struct Audited {
 }
 
 // A refusal, with the record and the round that it names.
-fn refused(number: u8, whose: u8, round: u8) -> Audited
-    ensures { Answers result (Outcome·refused number whose round) }
+fn refused(refusal: Refusal, whose: u8, round: u8) -> Audited
+    ensures { Answers result (Outcome·refused (number refusal) whose round) }
 {
     Audited {
-        finding: Finding::Refused(number, whose, round),
+        finding: Finding::Refused(u8::from(refusal), whose, round),
         secret: [0; 96],
         first: empty(),
         second: empty(),
@@ -47,15 +49,9 @@ fn refused(number: u8, whose: u8, round: u8) -> Audited
 }
 
 // s, from a round with a full set.
-fn secret_in<'a>(
-    scheme: Scheme,
-    system: &'a [u8],
-    a: &'a [u8],
-    b: &'a [u8],
-    c: &'a [u8],
-    r: u8,
-) -> [u8; 96]
-    ensures { result ≡ secret_in scheme system.now a.now b.now c.now r }
+#[tactic(auto, unfolding(crate::specs::Audit::secret_in))]
+fn secret_in(scheme: Scheme, system: &System, a: &[u8], b: &[u8], c: &[u8], r: u8) -> [u8; 96]
+    ensures { result ≡ secret_in scheme system.now.bytes.now a.now b.now c.now r }
 {
     match scheme {
         Scheme::ThreePass => {
@@ -68,15 +64,8 @@ fn secret_in<'a>(
 }
 
 // The secret as a finding.
-fn secret_at<'a>(
-    scheme: Scheme,
-    system: &'a [u8],
-    a: &'a [u8],
-    b: &'a [u8],
-    c: &'a [u8],
-    r: u8,
-) -> Audited
-    ensures { Answers result (secret_at scheme system.now a.now b.now c.now r) }
+fn secret_at(scheme: Scheme, system: &System, a: &[u8], b: &[u8], c: &[u8], r: u8) -> Audited
+    ensures { Answers result (secret_at scheme system.now.bytes.now a.now b.now c.now r) }
 {
     Audited {
         finding: Finding::Secret,
@@ -87,6 +76,7 @@ fn secret_at<'a>(
 }
 
 // A clash with its two strings.
+#[tactic(auto, unfolding(crate::specs::Outcome::clashed, slices::specs::Slices::zeros))]
 fn clashed(k: u8, first: Text, second: Text) -> Audited
     ensures { result ≡ Outcome·clashed k first second }
 {
@@ -99,86 +89,59 @@ fn clashed(k: u8, first: Text, second: Text) -> Audited
 }
 
 // Commitment k of a round, opened in two ways.
-fn clash_at<'a>(
+fn clash_at(
     scheme: Scheme,
-    system: &'a [u8],
-    a: &'a [u8],
-    b: &'a [u8],
-    c: &'a [u8],
-    d: &'a [u8],
+    system: &System,
+    a: &[u8],
+    b: &[u8],
+    c: &[u8],
+    d: &[u8],
     r: u8,
     k: u8,
 ) -> Audited
-    requires { system_refusal system.now ≡ 0 }
-    ensures { Answers result (clash_at scheme system.now a.now b.now c.now d.now r k) }
+    ensures { Answers result (clash_at scheme system.now.bytes.now a.now b.now c.now d.now r k) }
 {
-    let pair = opened_pair(scheme, system, a, b, c, d, r, k);
-    let left = pair.left;
-    let right = pair.right;
+    let Pair { left, right } = opened_pair(scheme, system, a, b, c, d, r, k);
     clashed(k, left, right)
 }
 
 // What a search over the rounds finds.
-fn search<'a>(
-    scheme: Scheme,
-    system: &'a [u8],
-    a: &'a [u8],
-    b: &'a [u8],
-    c: &'a [u8],
-    d: &'a [u8],
-) -> Audited
-    requires { system_refusal system.now ≡ 0 }
-    ensures { Answers result (search_of scheme system.now a.now b.now c.now d.now) }
+fn search(scheme: Scheme, system: &System, a: &[u8], b: &[u8], c: &[u8], d: &[u8]) -> Audited
+    ensures { Answers result (search_of scheme system.now.bytes.now a.now b.now c.now d.now) }
 {
-    let round = first_full(scheme, a, b, c, d);
-    if round == 0 {
-        return refused(9, 0, 0);
+    let Some(r) = first_full(scheme, a, b, c, d) else {
+        return refused(Refusal::NoFullSet, 0, 0);
+    };
+    match first_clash(scheme, system, a, b, c, d, r) {
+        Some(k) => clash_at(scheme, system, a, b, c, d, r, k),
+        None => secret_at(scheme, system, a, b, c, r),
     }
-    let r = round - 1;
-    let k = first_clash(scheme, system, a, b, c, d, r);
-    if k == 0 {
-        return secret_at(scheme, system, a, b, c, r);
-    }
-    clash_at(scheme, system, a, b, c, d, r, k - 1)
 }
 
 // The audit of either scheme; scheme 3 has no fourth record, and `d` is not looked at there.
-fn audit<'a>(
-    scheme: Scheme,
-    system: &'a [u8],
-    a: &'a [u8],
-    b: &'a [u8],
-    c: &'a [u8],
-    d: &'a [u8],
-) -> Audited
+fn audit(scheme: Scheme, system: &[u8], a: &[u8], b: &[u8], c: &[u8], d: &[u8]) -> Audited
     ensures { Answers result (audit_of scheme system.now a.now b.now c.now d.now) }
 {
-    let number = comparable_refusal(scheme, system, a, b, c, d);
-    if number != 0 {
-        return refused(number, 0, 0);
+    match check_comparable(scheme, system, a, b, c, d) {
+        Ok(system) => match first_rejection(scheme, &system, a, b, c, d) {
+            Some(Rejection { whose, round }) => refused(Refusal::Rejected, whose, round),
+            None => search(scheme, &system, a, b, c, d),
+        },
+        Err(refusal) => refused(refusal, 0, 0),
     }
-    let rejected = first_rejection(scheme, system, a, b, c, d);
-    if rejected.whose != 0 {
-        return refused(8, rejected.whose, rejected.round);
-    }
-    search(scheme, system, a, b, c, d)
 }
 
 // Audits three records of scheme 3.
-pub fn audit_three<'a>(system: &'a [u8], a: &'a [u8], b: &'a [u8], c: &'a [u8]) -> Audited
+#[tactic(auto, unfolding(crate::specs::Audit::audit_three))]
+pub fn audit_three(system: &[u8], a: &[u8], b: &[u8], c: &[u8]) -> Audited
     ensures { Answers result (audit_three system.now a.now b.now c.now) }
 {
     audit(Scheme::ThreePass, system, a, b, c, c)
 }
 
 // Audits four records of scheme 5.
-pub fn audit_five<'a>(
-    system: &'a [u8],
-    a: &'a [u8],
-    b: &'a [u8],
-    c: &'a [u8],
-    d: &'a [u8],
-) -> Audited
+#[tactic(auto, unfolding(crate::specs::Audit::audit_five))]
+pub fn audit_five(system: &[u8], a: &[u8], b: &[u8], c: &[u8], d: &[u8]) -> Audited
     ensures { Answers result (audit_five system.now a.now b.now c.now d.now) }
 {
     audit(Scheme::FivePass, system, a, b, c, d)

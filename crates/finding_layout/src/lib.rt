@@ -9,6 +9,7 @@ use commitment::Text;
 use slices::{put_both, word};
 
 // Which finding it is, and what it says.
+#[tactic(auto, unfolding(crate::specs::FindingLayout::kind_bytes))]
 fn kind_bytes(f: Finding) -> [u8; 4]
     ensures { (result ≡ kind_bytes f) × (length result ≡ 4) }
 {
@@ -20,6 +21,7 @@ fn kind_bytes(f: Finding) -> [u8; 4]
 }
 
 // A string, its length before its bytes.
+#[tactic(auto, unfolding(crate::specs::FindingLayout::text_bytes))]
 fn text_bytes(t: Text) -> [u8; 326]
     ensures { (result ≡ text_bytes t) × (length result ≡ 326) }
 {
@@ -31,12 +33,12 @@ fn text_bytes(t: Text) -> [u8; 326]
 }
 
 // What it is, the secret, then the two strings.
+#[tactic(auto, unfolding(crate::specs::FindingLayout::finding_bytes))]
 pub fn finding_bytes(audited: Audited) -> [u8; 752]
     ensures { (result ≡ finding_bytes audited) × (length result ≡ 752) }
 {
-    let finding = audited.finding;
     let secret = audited.secret;
-    let kind = kind_bytes(finding);
+    let kind = kind_bytes(audited.finding);
     let first = text_bytes(audited.first);
     let second = text_bytes(audited.second);
     let mut start = [0; 100];

@@ -1,6 +1,6 @@
 -- The first rejection over a list of records: there is none exactly where every round is accepted, else it is the first rejected round's. Assumes nothing.
 use Prim.Native.Nat.{ℕ, zero, suc, ◌+◌}
-use mathlib.Core.Path.{◌≡◌, refl, sym, ap, ◌∙◌}
+use mathlib.Core.Path.{◌≡◌, refl, ap, ◌∙◌}
 use mathlib.Core.Bool.{not}
 use mathlib.Core.List.{List, [], ◌∷◌}
 use native.Mathlib.Omega.{arith}
@@ -47,11 +47,11 @@ rejected_first system b bs r e =
 walk_here : (system : List ℕ) (k : ℕ) (b : List ℕ) (bs : List (List ℕ)) (r : ℕ) → rejected_round system b ≡ r + 1 →
     walk system k (b ∷ bs) ≡ record { whose = k; round = r + 1 }
 unfolding walk
-walk_here system k b bs r e = sym (R.rejected_here k (rejected_round system b) (r + 1) _ (sym e) (λ z. absurd (omega arith)))
+walk_here system k b bs r e = ap (λ (round : ℕ). rejected_in k round (walk system (k + 1) bs)) e ∙ R.rejected_here k r _
 
 walk_later : (system : List ℕ) (k : ℕ) (b : List ℕ) (bs : List (List ℕ)) → rejected_round system b ≡ 0 → walk system k (b ∷ bs) ≡ walk system (k + 1) bs
 unfolding walk
-walk_later system k b bs none = sym (R.rejected_later k (rejected_round system b) _ _ _ refl none refl)
+walk_later system k b bs none = ap (λ (round : ℕ). rejected_in k round (walk system (k + 1) bs)) none ∙ R.rejected_later k _
 
 -- ---- all records
 

@@ -1,7 +1,8 @@
 -- By cases on the finding. Assumes nothing.
+use Prim.Native.Nat.{ℕ}
 use mathlib.Core.Path.{◌≡◌, ap, ◌∙◌}
 use native.Mathlib.Omega.{arith}
-use lib.ListN.{length}
+use lib.ListN.{length, take}
 use Rattle.audit_lines.specs.AuditLines.{secret_word, hex_line}
 use Rattle.audit_lines.proofs.Front.{at_front, front_by, part_short, secret_text, clash_text, refused_text}
 use borrow.Author.Rules.{rules}
@@ -11,7 +12,7 @@ pub hex_line-requires : goal.hex_line-requires
 hex_line-requires c =
     let args = c.args in
     let long : length args.audited.secret ≡ 96 = search rules in
-    let short = part_short args.audited.secret _ args.n _ c.part.ensures long in
+    let short = part_short args.audited.secret _ _ _ c.part.ensures long in
     omega (arith, short)
 
 pub returns-in-Secret : goal.returns-in-Secret
@@ -21,9 +22,9 @@ returns-in-Secret c =
     let part = c.part in
     let args = c.args in
     let long : length args.audited.secret ≡ 96 = search rules in
-    let short = part_short args.audited.secret _ args.n _ part.ensures long in
+    let short = part_short args.audited.secret _ _ _ part.ensures long in
     front_by _ _ _ _ _ (at_front _ _ _ _ (line.0, line.1) (omega (arith, short, line.2)))
-    (ap (hex_line secret_word) part.ensures ∙ secret_text _ _ c.in-Secret.is)
+    (ap (hex_line secret_word) (part.ensures ∙ ap (λ (n : ℕ). take n args.audited.secret) c.from.ensures) ∙ secret_text _ _ c.in-Secret.is)
 
 pub returns-in-Clash : goal.returns-in-Clash
 returns-in-Clash c =

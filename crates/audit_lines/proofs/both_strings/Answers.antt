@@ -12,7 +12,7 @@ clash_lines-requires c =
     let args = c.args in
     let first : length args.first.bytes ≡ longest = search rules in
     let second : length args.second.bytes ≡ longest = search rules in
-    (search rules, part_short args.first.bytes _ args.first.len _ c.part.ensures first, part_short args.second.bytes _ args.second.len _ c.part-2.ensures second)
+    (part_short args.first.bytes _ args.first.len _ c.part.ensures first, part_short args.second.bytes _ args.second.len _ c.part-2.ensures second)
 
 pub returns : goal.returns
 returns c =

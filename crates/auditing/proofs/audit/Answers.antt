@@ -1,26 +1,31 @@
 -- By cases on what is refused. Assumes nothing.
-use mathlib.Core.Path.{sym, ◌∙◌}
-use Rattle.comparable.proofs.Passed.{passed}
+use mathlib.Core.Path.{refl, ap, ◌∙◌}
+use mathlib.Core.List.{List}
+use Prim.Native.Nat.{ℕ}
+use native.Mathlib.Omega.{arith}
+use Rattle.refusal.proofs.Answers.{refuses}
+use Rattle.comparable.specs.Comparable.{rejection_of}
+use Rattle.auditing.specs.Audit.{search_of}
 use Rattle.auditing.proofs.Answering.{answers_by}
 use Rattle.auditing.proofs.Outcomes.{audit_refused, audit_rejected, audit_searched}
 use Rattle.auditing.proofs.audit.Goals as goal
 
-pub returns-then-number-ne0 : goal.returns-then-number-ne0
-returns-then-number-ne0 c =
-    answers_by _ _ _ c.refused.ensures (audit_refused _ _ _ _ _ _ _ c.comparable_refusal-number.ensures c.if-number-ne0.true)
+pub returns-in-Some : goal.returns-in-Some
+returns-in-Some c =
+    let a = c.args in
+    answers_by _ _ _ c.refused.ensures
+    (audit_rejected _ _ _ _ _ _ _ _ c.in-Ok.ensures.refusal refl
+    (c.in-Some.ensures.is ∙ ap (λ (system : List ℕ). rejection_of a.scheme system a.a.now a.b.now a.c.now a.d.now) c.in-Ok.ensures.bytes)
+    (λ zeroed. omega (arith, zeroed, c.in-Some.ensures.whose)))
 
-pub first_rejection-rejected-requires : goal.first_rejection-rejected-requires
-first_rejection-rejected-requires c =
-    (passed _ _ _ _ _ _ (sym c.comparable_refusal-number.ensures ∙ c.if-number-ne0.false)).good
+pub returns-in-None : goal.returns-in-None
+returns-in-None c =
+    let a = c.args in
+    answers_by _ _ _ c.search.ensures
+    (ap (λ (system : List ℕ). search_of a.scheme system a.a.now a.b.now a.c.now a.d.now) c.in-Ok.ensures.bytes ∙
+    audit_searched _ _ _ _ _ _ _ _ c.in-Ok.ensures.refusal refl
+    (c.in-None.ensures.is ∙ ap (λ (system : List ℕ). rejection_of a.scheme system a.a.now a.b.now a.c.now a.d.now) c.in-Ok.ensures.bytes) refl)
 
-pub returns-then-rejected-ne0 : goal.returns-then-rejected-ne0
-returns-then-rejected-ne0 c =
-    answers_by _ _ _ c.refused-then-rejected-ne0.ensures (audit_rejected _ _ _ _ _ _ _ _ c.comparable_refusal-number.ensures c.if-number-ne0.false c.first_rejection-rejected.ensures c.if-rejected-ne0.true)
-
-pub search-requires : goal.search-requires
-search-requires c =
-    (passed _ _ _ _ _ _ (sym c.comparable_refusal-number.ensures ∙ c.if-number-ne0.false)).good
-
-pub returns : goal.returns
-returns c =
-    answers_by _ _ _ c.search.ensures (audit_searched _ _ _ _ _ _ _ _ c.comparable_refusal-number.ensures c.if-number-ne0.false c.first_rejection-rejected.ensures c.if-rejected-ne0.false)
+pub returns-in-Err : goal.returns-in-Err
+returns-in-Err c =
+    answers_by _ _ _ c.refused-in-Err.ensures (audit_refused _ _ _ _ _ _ _ c.in-Err.ensures.refusal (refuses c.in-Err.refusal))

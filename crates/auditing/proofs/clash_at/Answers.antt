@@ -6,4 +6,4 @@ use Rattle.auditing.proofs.clash_at.Goals as goal
 pub returns : goal.returns
 unfolding clash_at
 returns c =
-    let k = c.opened_pair-pair.ensures in answers_clash _ _ _ _ _ _ c.clashed.ensures k.left_text k.right_text
+    let k = c.opened_pair.ensures in answers_clash _ _ _ _ _ _ c.clashed.ensures k.left_text k.right_text
