@@ -18,18 +18,17 @@ const BOTH: usize = 1065536;
 pub fn recorded<R: Env + Eprint + Files + Print>(
     rt: &R,
     t: Terms,
-    system: &[u8],
     v: &[u8],
     commitments: &[u8],
     exchanges: &[u8],
     number: usize,
 ) -> Result<(), Refused>
-    requires { length system.now ≤ 65536 }
+    requires { length t.system.now ≤ 65536 }
 {
     let mut both = zeros::<BOTH>();
-    let end = written(t, system, v, commitments, exchanges, &mut both)?;
+    let end = written(t, v, commitments, exchanges, &mut both)?;
     let input = part(&both, 0, end);
-    let bytes = part(input, system.len(), end);
+    let bytes = part(input, t.system.len(), end);
     say_record(rt, bytes);
     store(rt, bytes, number);
     say_report(rt, input);
@@ -39,19 +38,18 @@ pub fn recorded<R: Env + Eprint + Files + Print>(
 // Puts the system and behind it the record, and answers where that ends.
 fn written(
     t: Terms,
-    system: &[u8],
     v: &[u8],
     commitments: &[u8],
     exchanges: &[u8],
     out: &mut [u8],
 ) -> Result<usize, Refused>
-    requires { (length system.now ≤ 65536) × (length out.old ≡ 1065536) }
+    requires { (length t.system.now ≤ 65536) × (length out.old ≡ 1065536) }
 {
     let header = Header::of_bytes(t.scheme, t.q, t.n, t.m, t.rounds);
     let layout = header.layout();
-    let start = system.len();
+    let start = t.system.len();
     let end = start + header.record_length();
-    put(out, 0, system);
+    put(out, 0, t.system);
     write(
         t.scheme,
         t.q,

@@ -78,9 +78,9 @@ fn session<'a, R: Env + Eprint + Files + Print>(
     let rounds = part(bytes, 2 + m + n, bytes.len());
     let mut commitments = zeros::<MESSAGES>();
     let mut exchanges = zeros::<MESSAGES>();
-    let mut ends = Ends::open(t, system, v, s)?;
-    ends.play(t, system, rounds, &mut commitments, &mut exchanges)?;
-    recorded(rt, t, system, v, &commitments, &exchanges, number)?;
+    let mut ends = Ends::open(t, v, s)?;
+    ends.play(t, rounds, &mut commitments, &mut exchanges)?;
+    recorded(rt, t, v, &commitments, &exchanges, number)?;
     say_ends(rt, &ends);
     Ok(rest)
 }

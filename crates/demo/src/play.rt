@@ -22,11 +22,11 @@ pub struct Ends {
 
 impl Ends {
     // Opens both ends.
-    pub fn open(t: Terms, system: &[u8], v: &[u8], s: &[u8]) -> Result<Ends, Refused> {
-        let card = card::open(system, t.scheme, t.rounds, v, s);
+    pub fn open(t: Terms, v: &[u8], s: &[u8]) -> Result<Ends, Refused> {
+        let card = card::open(t.system, t.scheme, t.rounds, v, s);
         card.answer
             .map_err(|refusal| Refused::of(refusal, "card open"))?;
-        let carrier = carrier::open(system, t.scheme, t.rounds, v);
+        let carrier = carrier::open(t.system, t.scheme, t.rounds, v);
         carrier
             .answer
             .map_err(|refusal| Refused::of(refusal, "carrier open"))?;
@@ -40,7 +40,6 @@ impl Ends {
     pub fn play(
         &mut self,
         t: Terms,
-        system: &[u8],
         rounds: &[u8],
         commitments: &mut [u8],
         exchanges: &mut [u8],
@@ -52,55 +51,37 @@ impl Ends {
         for r in 0..t.rounds {
             let round = part(rounds, of_rounds(r, each), each);
             let at = of_rounds(r, length);
-            self.commit(t, system, round, &mut commitments[at..at + length])?;
+            self.commit(t, round, &mut commitments[at..at + length])?;
             let at = of_rounds(r, exchange_length(t.passes(), t.n, t.m));
-            self.exchange(t, system, round, &mut exchanges[at..])?;
+            self.exchange(t, round, &mut exchanges[at..])?;
         }
         Ok(())
     }
 
     // The exchange of a round, α and the challenge being asked in it behind what is lent.
-    fn exchange(
-        &mut self,
-        t: Terms,
-        system: &[u8],
-        round: &[u8],
-        exchange: &mut [u8],
-    ) -> Result<(), Refused>
+    fn exchange(&mut self, t: Terms, round: &[u8], exchange: &mut [u8]) -> Result<(), Refused>
         requires { 1341 ≤ length exchange.old }
     {
         let asked = lent_length(t.passes(), t.n, t.m);
         if has_alpha(t.passes()) {
-            self.answer(t, system, byte_at(round, asked), exchange)?;
-            self.reply(t, system, byte_at(round, asked + 1), exchange)
+            self.answer(t, byte_at(round, asked), exchange)?;
+            self.reply(t, byte_at(round, asked + 1), exchange)
         } else {
-            self.reply(t, system, byte_at(round, asked), exchange)
+            self.reply(t, byte_at(round, asked), exchange)
         }
     }
 
     // The card commits, and the carrier takes the commitments.
-    fn commit(
-        &mut self,
-        t: Terms,
-        system: &[u8],
-        round: &[u8],
-        out: &mut [u8],
-    ) -> Result<(), Refused> {
+    fn commit(&mut self, t: Terms, round: &[u8], out: &mut [u8]) -> Result<(), Refused> {
         let lent = part(round, 0, lent_length(t.passes(), t.n, t.m));
-        let sent = card::commit(self.card, system, lent, out);
+        let sent = card::commit(self.card, t.system, lent, out);
         self.card_answered(sent, "card commit")?;
         let taken = carrier::take_commitments(self.carrier, out);
         self.carrier_answered(taken, "carrier take commitments")
     }
 
     // The carrier sets α, the card answers with t1 and e1, and the carrier takes them. All three stand at the front of an exchange.
-    fn answer(
-        &mut self,
-        t: Terms,
-        system: &[u8],
-        alpha: u8,
-        exchange: &mut [u8],
-    ) -> Result<(), Refused>
+    fn answer(&mut self, t: Terms, alpha: u8, exchange: &mut [u8]) -> Result<(), Refused>
         requires { 1341 ≤ length exchange.old }
     {
         put(exchange, 0, &[alpha]);
@@ -108,20 +89,14 @@ impl Ends {
         let out = &mut exchange[1..end];
         let set = carrier::set_alpha(self.carrier, alpha);
         self.carrier_answered(set, "carrier set alpha")?;
-        let sent = card::answer_alpha(self.card, system, alpha, out);
+        let sent = card::answer_alpha(self.card, t.system, alpha, out);
         self.card_answered(sent, "card answer alpha")?;
         let taken = carrier::take_middle(self.carrier, out);
         self.carrier_answered(taken, "carrier take t1 and e1")
     }
 
     // The carrier sets the challenge, the card replies, and the carrier takes the reply. Both stand behind the turn.
-    fn reply(
-        &mut self,
-        t: Terms,
-        system: &[u8],
-        challenge: u8,
-        exchange: &mut [u8],
-    ) -> Result<(), Refused>
+    fn reply(&mut self, t: Terms, challenge: u8, exchange: &mut [u8]) -> Result<(), Refused>
         requires { 1341 ≤ length exchange.old }
     {
         let at = turn_length(t.passes(), t.n, t.m);
@@ -132,7 +107,7 @@ impl Ends {
         self.carrier_answered(set, "carrier set challenge")?;
         let sent = card::reply(self.card, challenge, out);
         self.card_answered(sent, "card reply")?;
-        let judged = carrier::take_reply(self.carrier, system, out);
+        let judged = carrier::take_reply(self.carrier, t.system, out);
         self.carrier_answered(judged, "carrier take reply")?;
         Ok(())
     }

@@ -1,12 +1,13 @@
 // What a session is about.
-ghost use Rattle.std.specs.Prelude.{◌≤◌};
+ghost use Rattle.std.specs.Prelude.{◌≡◌, ◌≤◌};
 
 use scheme::{Scheme, has_alpha, lent_length, of_rounds, scheme_of};
 use slices::byte_at;
 
-// What both ends are opened with, v and s aside.
+// What both ends are opened with, v and s aside. q, n and m are the system's.
 #[derive(Clone, Copy)]
-pub struct Terms {
+pub struct Terms<'a> {
+    pub system: &'a [u8],
     pub scheme: u8,
     pub rounds: u8,
     pub q: u8,
@@ -14,10 +15,13 @@ pub struct Terms {
     pub m: u8,
 }
 
-impl Terms {
-    // The session's own first two bytes, and the system's sizes.
-    pub fn of(system: &[u8], bytes: &[u8]) -> Terms {
+impl<'a> Terms<'a> {
+    // The session's own first two bytes, and the system with its sizes.
+    pub fn of(system: &'a [u8], bytes: &[u8]) -> Terms<'a>
+        ensures { result.system.now ≡ system.now }
+    {
         Terms {
+            system,
             scheme: byte_at(bytes, 0),
             rounds: byte_at(bytes, 1),
             q: byte_at(system, 0),

@@ -3,7 +3,7 @@ use card_state::{Card, CardPhase};
 use carrier_state::{Carrier, CarrierPhase};
 use hex_text::append_hex;
 use scheme::Scheme;
-use session_state::Verdict;
+use session_state::{Phase, Verdict};
 
 // How many digits of a digest are shown: those of its first 8 bytes.
 const SHOWN: usize = 16;
@@ -26,7 +26,7 @@ pub fn end_line<R: Print>(rt: &R, card: &Card, carrier: &Carrier) {
 fn say_card<R: Print>(rt: &R, card: &Card) {
     let due = card_due(card.phase);
     let round = card.round;
-    let numbers = is_closed_card(card.phase)
+    let numbers = card.phase.is_closed()
         && has_numbers(card.scheme, [card.q, card.n, card.m, card.rounds]);
     let vectors = any(&card.r0) || any(&card.t0) || any(&card.e0) || any(&card.e1);
     let rhos = any(&card.rhos.rho0) || any(&card.rhos.rho1) || any(&card.rhos.rho2);
@@ -40,7 +40,7 @@ fn say_card<R: Print>(rt: &R, card: &Card) {
 fn say_carrier<R: Print>(rt: &R, carrier: &Carrier) {
     let due = carrier_due(carrier.phase);
     let accepted = carrier.accepted;
-    let numbers = is_closed_carrier(carrier.phase)
+    let numbers = carrier.phase.is_closed()
         && has_numbers(
             carrier.scheme,
             [carrier.q, carrier.n, carrier.m, carrier.rounds],
@@ -50,14 +50,6 @@ fn say_carrier<R: Print>(rt: &R, carrier: &Carrier) {
     let v = letter(any(&carrier.v), "v");
     let m = letter(messages, "m");
     let _ = println!(rt; " {due}{accepted}{n}{v}{m}");
-}
-
-fn is_closed_card(phase: CardPhase) -> bool {
-    matches!(phase, CardPhase::Closed(_))
-}
-
-fn is_closed_carrier(phase: CarrierPhase) -> bool {
-    matches!(phase, CarrierPhase::Closed(_))
 }
 
 // Is a number of a session another than a closed session's, which is of the first scheme?
