@@ -1,7 +1,7 @@
 // The card's calls: open, then in each round commit, in scheme 5 the reply to α, and the reply.
 //
-// Each call takes the session by value and hands it back with 0, or with the number of the refusal; then the session and the
-// outputs are what they were. The session and what is refused are those of `card_state`.
+// Each call takes the session by value and hands it back beside its answer; where that is a refusal, the session and the outputs
+// are what they were. The session and what is refused are those of `card_state`.
 //
 // A session is a value, and a copy of it is a session too. Replying twice from copies of one session, to different challenges,
 // gives the secret away, and no call zeroes the copy that the caller kept: keep one session, the one handed back last, and

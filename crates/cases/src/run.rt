@@ -28,6 +28,7 @@ fn run_groups<'a, R: Print, F: FnMut(Case<'a>) -> Option<bool>>(
 {
     let mut reader = Reader { rest: file };
     let mut total = Tally::none();
+    // Groups are read until the file ends: how many there are is told nowhere.
     'groups: loop {
         let at = file.len() - reader.rest.len();
         let group = next_group(&mut reader).ok_or(Malformed { at })?;

@@ -8,7 +8,8 @@ ghost use Rattle.session_state.specs.State.{state_refusal, next_count};
 
 use refusal::{Refusal, require};
 
-// How a session ended. A card's session and one whose opening was refused have none.
+// How a session ended. A card's session and one whose opening was refused have none. By a rule of the project this is an enum in the
+// closed phase, and no Option.
 #[derive(Clone, Copy, Debug, PartialEq, Eq)]
 pub enum Verdict {
     None,
