@@ -17,7 +17,7 @@ pub struct Domain {
     pub scheme: Scheme,
 }
 
-// A hashed string, zero beyond its length.
+// A hashed string, zero beyond its length: bytes with a length beside, since there is no heap.
 #[derive(Clone, Copy)]
 pub struct Text {
     pub bytes: [u8; 322],
@@ -77,12 +77,10 @@ fn append(t: Text, v: [u8; 96], n: u8) -> Text
     requires { Room (length (take n v)) t }
     ensures { Appended t (take n v) result }
 {
-    let bytes = t.bytes;
-    let len = t.len;
     let count = clamped(n as usize);
     Text {
-        bytes: put(bytes, len, &v[..count]),
-        len: len + count,
+        bytes: put(t.bytes, t.len, &v[..count]),
+        len: t.len + count,
     }
 }
 
@@ -115,7 +113,5 @@ pub fn digest(t: Text) -> [u8; 32]
     requires { Room 0 t }
     ensures { result ≡ sha256 (content t) }
 {
-    let bytes = t.bytes;
-    let len = t.len;
-    sha256::hash(&bytes[..len])
+    sha256::hash(&t.bytes[..t.len])
 }
