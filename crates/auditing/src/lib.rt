@@ -11,7 +11,7 @@ ghost use Rattle.auditing.specs.Audit.{clash_at, secret_in, secret_at, search_of
 
 use clash::{Pair, first_clash, opened_pair};
 use commitment::{Text, empty};
-use comparable::{Rejection, check_comparable, first_rejection};
+use comparable::{Records, Rejection, check_comparable, first_rejection};
 use full_set::{answering, first_full};
 use openings::secret;
 use refusal::Refusal;
@@ -50,26 +50,26 @@ fn refused(refusal: Refusal, whose: u8, round: u8) -> Audited
 
 // s, from a round with a full set.
 #[tactic(auto, unfolding(crate::specs::Audit::secret_in))]
-fn secret_in(scheme: Scheme, system: &System, a: &[u8], b: &[u8], c: &[u8], r: u8) -> [u8; 96]
-    ensures { result ≡ secret_in scheme system.now.bytes.now a.now b.now c.now r }
+fn secret_in(system: &System, records: &Records, r: u8) -> [u8; 96]
+    ensures { result ≡ secret_in records.now.scheme system.now.bytes.now records.now.a.now records.now.b.now records.now.c.now r }
 {
-    match scheme {
+    match records.scheme {
         Scheme::ThreePass => {
-            let zero = answering(a, b, c, r, 0);
-            let one = answering(a, b, c, r, 1);
+            let zero = answering(records, r, 0);
+            let one = answering(records, r, 1);
             secret(system, zero, one, r)
         }
-        Scheme::FivePass => secret(system, a, b, r),
+        Scheme::FivePass => secret(system, records.a, records.b, r),
     }
 }
 
 // The secret as a finding.
-fn secret_at(scheme: Scheme, system: &System, a: &[u8], b: &[u8], c: &[u8], r: u8) -> Audited
-    ensures { Answers result (secret_at scheme system.now.bytes.now a.now b.now c.now r) }
+fn secret_at(system: &System, records: &Records, r: u8) -> Audited
+    ensures { Answers result (secret_at records.now.scheme system.now.bytes.now records.now.a.now records.now.b.now records.now.c.now r) }
 {
     Audited {
         finding: Finding::Secret,
-        secret: secret_in(scheme, system, a, b, c, r),
+        secret: secret_in(system, records, r),
         first: empty(),
         second: empty(),
     }
@@ -89,32 +89,23 @@ fn clashed(k: u8, first: Text, second: Text) -> Audited
 }
 
 // Commitment k of a round, opened in two ways.
-fn clash_at(
-    scheme: Scheme,
-    system: &System,
-    a: &[u8],
-    b: &[u8],
-    c: &[u8],
-    d: &[u8],
-    r: u8,
-    k: u8,
-) -> Audited
-    ensures { Answers result (clash_at scheme system.now.bytes.now a.now b.now c.now d.now r k) }
+fn clash_at(system: &System, records: &Records, r: u8, k: u8) -> Audited
+    ensures { Answers result (clash_at records.now.scheme system.now.bytes.now records.now.a.now records.now.b.now records.now.c.now records.now.d.now r k) }
 {
-    let Pair { left, right } = opened_pair(scheme, system, a, b, c, d, r, k);
+    let Pair { left, right } = opened_pair(system, records, r, k);
     clashed(k, left, right)
 }
 
 // What a search over the rounds finds.
-fn search(scheme: Scheme, system: &System, a: &[u8], b: &[u8], c: &[u8], d: &[u8]) -> Audited
-    ensures { Answers result (search_of scheme system.now.bytes.now a.now b.now c.now d.now) }
+fn search(system: &System, records: &Records) -> Audited
+    ensures { Answers result (search_of records.now.scheme system.now.bytes.now records.now.a.now records.now.b.now records.now.c.now records.now.d.now) }
 {
-    let Some(r) = first_full(scheme, a, b, c, d) else {
+    let Some(r) = first_full(records) else {
         return refused(Refusal::NoFullSet, 0, 0);
     };
-    match first_clash(scheme, system, a, b, c, d, r) {
-        Some(k) => clash_at(scheme, system, a, b, c, d, r, k),
-        None => secret_at(scheme, system, a, b, c, r),
+    match first_clash(system, records, r) {
+        Some(k) => clash_at(system, records, r, k),
+        None => secret_at(system, records, r),
     }
 }
 
@@ -122,10 +113,11 @@ fn search(scheme: Scheme, system: &System, a: &[u8], b: &[u8], c: &[u8], d: &[u8
 fn audit(scheme: Scheme, system: &[u8], a: &[u8], b: &[u8], c: &[u8], d: &[u8]) -> Audited
     ensures { Answers result (audit_of scheme system.now a.now b.now c.now d.now) }
 {
-    match check_comparable(scheme, system, a, b, c, d) {
-        Ok(system) => match first_rejection(scheme, &system, a, b, c, d) {
+    let records = Records { scheme, a, b, c, d };
+    match check_comparable(system, &records) {
+        Ok(system) => match first_rejection(&system, &records) {
             Some(Rejection { whose, round }) => refused(Refusal::Rejected, whose, round),
-            None => search(scheme, &system, a, b, c, d),
+            None => search(&system, &records),
         },
         Err(refusal) => refused(refusal, 0, 0),
     }

@@ -1,7 +1,6 @@
 // The pairs of openings that are compared in a round with a full set, and the first that differs.
 //
-// Nothing here refuses: whoever calls has checked the system and read the records. Scheme 3 has no fourth record, and `d` is
-// not looked at there.
+// Nothing here refuses: whoever calls has checked the system and read the records. Scheme 3 has no fourth record.
 #![tactic(auto)]
 
 ghost use Rattle.std.specs.Prelude.{◌≡◌};
@@ -10,6 +9,7 @@ ghost use Rattle.clash.specs.Clash.{lower_challenge, higher_challenge, opener_fi
 ghost use Rattle.clash.specs.Clash.{left_string, right_string, PairOf, same_pair, first_clash};
 
 use commitment::Text;
+use comparable::Records;
 use full_set::answering;
 use openings::{opened_string, same_vectors};
 use scheme::{Scheme, commitment_count};
@@ -48,31 +48,23 @@ fn opener_five<'a>(x: &'a [u8], y: &'a [u8], k: u8) -> &'a [u8]
 
 // The record whose opening of commitment k stands first.
 #[tactic(auto, unfolding(crate::specs::Clash::left_record))]
-fn left_record<'a>(scheme: Scheme, a: &'a [u8], b: &'a [u8], c: &'a [u8], r: u8, k: u8) -> &'a [u8]
-    ensures { result.now ≡ left_record scheme a.now b.now c.now r k }
+fn left_record<'a>(records: &Records<'a>, r: u8, k: u8) -> &'a [u8]
+    ensures { result.now ≡ left_record records.now.scheme records.now.a.now records.now.b.now records.now.c.now r k }
 {
-    match scheme {
-        Scheme::ThreePass => answering(a, b, c, r, lower_challenge(k)),
-        Scheme::FivePass => opener_five(a, b, k),
+    match records.scheme {
+        Scheme::ThreePass => answering(records, r, lower_challenge(k)),
+        Scheme::FivePass => opener_five(records.a, records.b, k),
     }
 }
 
 // The record whose opening of commitment k is compared with it.
 #[tactic(auto, unfolding(crate::specs::Clash::right_record))]
-fn right_record<'a>(
-    scheme: Scheme,
-    a: &'a [u8],
-    b: &'a [u8],
-    c: &'a [u8],
-    d: &'a [u8],
-    r: u8,
-    k: u8,
-) -> &'a [u8]
-    ensures { result.now ≡ right_record scheme a.now b.now c.now d.now r k }
+fn right_record<'a>(records: &Records<'a>, r: u8, k: u8) -> &'a [u8]
+    ensures { result.now ≡ right_record records.now.scheme records.now.a.now records.now.b.now records.now.c.now records.now.d.now r k }
 {
-    match scheme {
-        Scheme::ThreePass => answering(a, b, c, r, higher_challenge(k)),
-        Scheme::FivePass => opener_five(c, d, k),
+    match records.scheme {
+        Scheme::ThreePass => answering(records, r, higher_challenge(k)),
+        Scheme::FivePass => opener_five(records.c, records.d, k),
     }
 }
 
@@ -83,55 +75,29 @@ pub struct Pair {
     pub right: Text,
 }
 
-pub fn opened_pair(
-    scheme: Scheme,
-    system: &System,
-    a: &[u8],
-    b: &[u8],
-    c: &[u8],
-    d: &[u8],
-    r: u8,
-    k: u8,
-) -> Pair
-    ensures { PairOf result (left_string scheme system.now.bytes.now a.now b.now c.now r k)
-        (right_string scheme system.now.bytes.now a.now b.now c.now d.now r k) }
+pub fn opened_pair(system: &System, records: &Records, r: u8, k: u8) -> Pair
+    ensures { PairOf result (left_string records.now.scheme system.now.bytes.now records.now.a.now records.now.b.now records.now.c.now r k)
+        (right_string records.now.scheme system.now.bytes.now records.now.a.now records.now.b.now records.now.c.now records.now.d.now r k) }
 {
-    let left = opened_string(system, left_record(scheme, a, b, c, r, k), r, k);
-    let right = opened_string(system, right_record(scheme, a, b, c, d, r, k), r, k);
+    let left = opened_string(system, left_record(records, r, k), r, k);
+    let right = opened_string(system, right_record(records, r, k), r, k);
     Pair { left, right }
 }
 
 // Whether both open commitment k with the same vectors.
-fn same_pair(
-    scheme: Scheme,
-    system: &System,
-    a: &[u8],
-    b: &[u8],
-    c: &[u8],
-    d: &[u8],
-    r: u8,
-    k: u8,
-) -> bool
-    ensures { result ≡ same_pair scheme system.now.bytes.now a.now b.now c.now d.now r k }
+fn same_pair(system: &System, records: &Records, r: u8, k: u8) -> bool
+    ensures { result ≡ same_pair records.now.scheme system.now.bytes.now records.now.a.now records.now.b.now records.now.c.now records.now.d.now r k }
 {
-    let Pair { left, right } = opened_pair(scheme, system, a, b, c, d, r, k);
-    same_vectors(domain_in(a), left, right)
+    let Pair { left, right } = opened_pair(system, records, r, k);
+    same_vectors(domain_in(records.a), left, right)
 }
 
 // The first commitment whose pair differs.
-pub fn first_clash(
-    scheme: Scheme,
-    system: &System,
-    a: &[u8],
-    b: &[u8],
-    c: &[u8],
-    d: &[u8],
-    r: u8,
-) -> Option<u8>
-    ensures { counted result ≡ first_clash scheme system.now.bytes.now a.now b.now c.now d.now r }
+pub fn first_clash(system: &System, records: &Records, r: u8) -> Option<u8>
+    ensures { counted result ≡ first_clash records.now.scheme system.now.bytes.now records.now.a.now records.now.b.now records.now.c.now records.now.d.now r }
 {
-    for k in 0..commitment_count(scheme) {
-        if !same_pair(scheme, system, a, b, c, d, r, k) {
+    for k in 0..commitment_count(records.scheme) {
+        if !same_pair(system, records, r, k) {
             return Some(k);
         }
     }

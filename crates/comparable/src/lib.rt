@@ -1,7 +1,7 @@
 // What an audit refuses before it looks for a full set: of the system, of each record, of records that differ, and of a round
 // that is rejected.
 //
-// Scheme 3 has no fourth record, and `d` is not looked at there.
+// Scheme 3 has no fourth record, and what stands in its place is not looked at there.
 #![tactic(auto)]
 
 ghost use Rattle.std.specs.Prelude.{◌≡◌, ◌<◌, IfOk, IfSome};
@@ -15,6 +15,16 @@ use scheme::Scheme;
 use slices::part;
 use system::System;
 use transcript::{accepts_round, check_fit};
+
+// The records of an audit, with their scheme; scheme 3 has no `d`, and what is there is not looked at.
+#[derive(Clone, Copy)]
+pub struct Records<'a> {
+    pub scheme: Scheme,
+    pub a: &'a [u8],
+    pub b: &'a [u8],
+    pub c: &'a [u8],
+    pub d: &'a [u8],
+}
 
 // Refuses one record.
 #[tactic(auto, using(refusal::proofs::Answers::chain, crate::proofs::Schemes::same_scheme), unfolding(crate::specs::Comparable::audited_refusal, record_form::specs::Record::layout_of))]
@@ -70,26 +80,20 @@ fn check_fourth_alike(scheme: Scheme, a: &[u8], d: &[u8]) -> Result<(), Refusal>
 
 // The checked system, or the refusal before any round is judged; it ends at the first.
 #[tactic(auto, using(refusal::proofs::Answers::chain), unfolding(crate::specs::Comparable::comparable_refusal))]
-pub fn check_comparable<'a>(
-    scheme: Scheme,
-    system: &'a [u8],
-    a: &[u8],
-    b: &[u8],
-    c: &[u8],
-    d: &[u8],
-) -> Result<System<'a>, Refusal>
-    ensures refusal { number_of result ≡ comparable_refusal scheme system.now a.now b.now c.now d.now }
+pub fn check_comparable<'a>(system: &'a [u8], records: &Records) -> Result<System<'a>, Refusal>
+    ensures refusal { number_of result ≡ comparable_refusal records.now.scheme system.now records.now.a.now records.now.b.now
+        records.now.c.now records.now.d.now }
     ensures bytes { IfOk result (λ checked. checked.bytes.now ≡ system.now) }
 {
     let checked = System::new(system)?;
-    check_audited(scheme, a)?;
-    check_audited(scheme, b)?;
-    check_audited(scheme, c)?;
-    check_fourth_audited(scheme, d)?;
-    check_fit(system, a)?;
-    check_alike(a, b)?;
-    check_alike(a, c)?;
-    check_fourth_alike(scheme, a, d)?;
+    check_audited(records.scheme, records.a)?;
+    check_audited(records.scheme, records.b)?;
+    check_audited(records.scheme, records.c)?;
+    check_fourth_audited(records.scheme, records.d)?;
+    check_fit(system, records.a)?;
+    check_alike(records.a, records.b)?;
+    check_alike(records.a, records.c)?;
+    check_fourth_alike(records.scheme, records.a, records.d)?;
     Ok(checked)
 }
 
@@ -127,17 +131,17 @@ fn fourth_rejected(scheme: Scheme, system: &System, d: &[u8]) -> Option<u8>
 
 // The same among the last two records.
 #[tactic(auto, using(crate::proofs::Rejections::rejections), unfolding(crate::specs::Comparable::later_rejection))]
-fn later_rejection(scheme: Scheme, system: &System, c: &[u8], d: &[u8]) -> Option<Rejection>
-    ensures is { rejection_in result ≡ later_rejection scheme system.now.bytes.now c.now d.now }
+fn later_rejection(system: &System, records: &Records) -> Option<Rejection>
+    ensures is { rejection_in result ≡ later_rejection records.now.scheme system.now.bytes.now records.now.c.now records.now.d.now }
     ensures whose { IfSome result (λ rejection. 0 < rejection.whose) }
 {
-    if let Some(r) = rejected_round(system, c) {
+    if let Some(r) = rejected_round(system, records.c) {
         return Some(Rejection {
             whose: 3,
             round: r + 1,
         });
     }
-    if let Some(r) = fourth_rejected(scheme, system, d) {
+    if let Some(r) = fourth_rejected(records.scheme, system, records.d) {
         return Some(Rejection {
             whose: 4,
             round: r + 1,
@@ -147,28 +151,22 @@ fn later_rejection(scheme: Scheme, system: &System, c: &[u8], d: &[u8]) -> Optio
 }
 
 #[tactic(auto, using(crate::proofs::Rejections::rejections), unfolding(crate::specs::Comparable::rejection_of))]
-pub fn first_rejection(
-    scheme: Scheme,
-    system: &System,
-    a: &[u8],
-    b: &[u8],
-    c: &[u8],
-    d: &[u8],
-) -> Option<Rejection>
-    ensures is { rejection_in result ≡ rejection_of scheme system.now.bytes.now a.now b.now c.now d.now }
+pub fn first_rejection(system: &System, records: &Records) -> Option<Rejection>
+    ensures is { rejection_in result ≡ rejection_of records.now.scheme system.now.bytes.now records.now.a.now records.now.b.now
+        records.now.c.now records.now.d.now }
     ensures whose { IfSome result (λ rejection. 0 < rejection.whose) }
 {
-    if let Some(r) = rejected_round(system, a) {
+    if let Some(r) = rejected_round(system, records.a) {
         return Some(Rejection {
             whose: 1,
             round: r + 1,
         });
     }
-    if let Some(r) = rejected_round(system, b) {
+    if let Some(r) = rejected_round(system, records.b) {
         return Some(Rejection {
             whose: 2,
             round: r + 1,
         });
     }
-    later_rejection(scheme, system, c, d)
+    later_rejection(system, records)
 }

@@ -13,4 +13,4 @@ abbrev Differs : Scheme → List ℕ → List ℕ → List ℕ → List ℕ → 
 Differs scheme system a b c d r k = not (same_pair scheme system a b c d r k)
 
 abbrev pub invariant-loop-k : goal.invariant-loop-k
-invariant-loop-k l = first_where l.k (Differs l.scheme l.system.bytes.now l.a l.b l.c l.d l.r) ≡ 0
+invariant-loop-k l = first_where l.k (Differs l.records.scheme l.system.bytes.now l.records.a.now l.records.b.now l.records.c.now l.records.d.now l.r) ≡ 0

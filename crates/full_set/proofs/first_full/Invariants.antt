@@ -6,7 +6,7 @@ use Rattle.full_set.specs.FullSet.{full_set}
 use Rattle.full_set.proofs.first_full.Given as goal
 
 abbrev pub invariant-loop-r : goal.invariant-loop-r
-invariant-loop-r l = (first_where l.r (full_set l.scheme l.a l.b l.c l.d) ≡ 0) × (l.r ≤ l.rounds) × (l.rounds ≤ 255)
+invariant-loop-r l = (first_where l.r (full_set l.records.scheme l.records.a.now l.records.b.now l.records.c.now l.records.d.now) ≡ 0) × (l.r ≤ l.rounds) × (l.rounds ≤ 255)
 
 abbrev pub decreases-loop-r : goal.decreases-loop-r
 decreases-loop-r l = l.rounds - l.r
