@@ -71,12 +71,12 @@ fn audited_files<R: Env + Files + Eprint>(
 }
 
 // Reads the fourth record and audits all four.
-fn with_fourth<'a, R: Env + Files + Eprint>(
+fn with_fourth<R: Env + Files + Eprint>(
     rt: &R,
-    system: &'a [u8],
-    a: &'a [u8],
-    b: &'a [u8],
-    c: &'a [u8],
+    system: & [u8],
+    a: & [u8],
+    b: & [u8],
+    c: & [u8],
     lengths: Lengths,
     text: &mut [u8; TEXT],
 ) -> Option<usize> {
