@@ -73,10 +73,10 @@ fn audited_files<R: Env + Files + Eprint>(
 // Reads the fourth record and audits all four.
 fn with_fourth<R: Env + Files + Eprint>(
     rt: &R,
-    system: & [u8],
-    a: & [u8],
-    b: & [u8],
-    c: & [u8],
+    system: &[u8],
+    a: &[u8],
+    b: &[u8],
+    c: &[u8],
     lengths: Lengths,
     text: &mut [u8; TEXT],
 ) -> Option<usize> {
