@@ -57,9 +57,9 @@ fn secret_in(system: &System, records: &Records, r: u8) -> [u8; 96]
         Scheme::ThreePass => {
             let zero = answering(records, r, 0);
             let one = answering(records, r, 1);
-            secret(system, zero, one, r)
+            secret(system.bytes, zero, one, r)
         }
-        Scheme::FivePass => secret(system, records.a, records.b, r),
+        Scheme::FivePass => secret(system.bytes, records.a, records.b, r),
     }
 }
 

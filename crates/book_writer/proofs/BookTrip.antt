@@ -88,13 +88,16 @@ write_takes f out = (
 
 -- "reading what the writer wrote gives the fields back": the reader's answer, which its contract gives, is count, q, n and m
 pub read_written : (f : Fields) (out : ℕ) → write_refusal f out ≡ 0 →
-    ((answer : Result Front Refusal) → number_of answer ≡ book_refusal (written f) → IfOk answer (λ front. front ≡ front_in (written f)) → answer ≡ Ok f.front) ×
+    ((answer : Result Front Refusal) → ((number_of answer ≡ book_refusal (written f)) × IfOk answer (λ front. front ≡ front_in (written f))) ↔ (answer ≡ Ok f.front)) ×
     (fields_in (written f) ≡ f)
 read_written f out none =
     let v = (taken f out none).valid in
     let few = v.count_value in
     let small : f.front.count < 4294967296 = omega (arith, few) in (
-      λ answer number front. reading_good (written f) answer number front (written_accepted f v) ∙ ap Ok (front_written f v.labels_length small),
+      λ answer. (
+        λ reading. reading_good (written f) answer reading.0 reading.1 (written_accepted f v) ∙ ap Ok (front_written f v.labels_length small),
+        λ is. rw is (sym (written_accepted f v), sym (front_written f v.labels_length small)),
+      ),
       fields_written f v.labels_length small,
     )
 

@@ -37,7 +37,7 @@ pub fn accepts_three(
     ensures { result ≡ all_open d commitments.now (openings_three system.now.bytes.now v challenge reply) }
 {
     let a = first_opening(system, d, v, challenge, reply);
-    let b = second_opening(system, d, challenge, reply);
+    let b = second_opening(system.bytes, d, challenge, reply);
     match challenge {
         0 => opens(a, commitments, 1) && opens(b, commitments, 2),
         1 => opens(a, commitments, 0) && opens(b, commitments, 2),

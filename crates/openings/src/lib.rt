@@ -35,7 +35,7 @@ fn opening_three(
     if k == first_number(challenge) {
         first_opening(system, d, v, challenge, reply)
     } else {
-        second_opening(system, d, challenge, reply)
+        second_opening(system.bytes, d, challenge, reply)
     }
 }
 
@@ -97,20 +97,20 @@ pub fn same_vectors(d: Domain, x: Text, y: Text) -> bool
 
 // The first vector of a reply: r0 to challenge 0, r1 to challenge 1.
 #[tactic(auto, unfolding(crate::specs::Openings::reply_vector))]
-fn reply_vector(system: &System, bytes: &[u8], r: u8) -> [u8; 96]
-    ensures { result ≡ reply_vector system.now.bytes.now bytes.now r }
+fn reply_vector(system: &[u8], bytes: &[u8], r: u8) -> [u8; 96]
+    ensures { result ≡ reply_vector system.now bytes.now r }
 {
-    slot(round_reply(bytes, r), 0, system.n())
+    slot(round_reply(bytes, r), 0, byte_at(system, 1))
 }
 
 // s = r0 + r1, from a reply to challenge 0 and one to challenge 1.
 #[tactic(auto, unfolding(crate::specs::Openings::secret_of))]
-pub fn secret(system: &System, zero: &[u8], one: &[u8], r: u8) -> [u8; 96]
-    ensures { result ≡ secret_of system.now.bytes.now zero.now one.now r }
+pub fn secret(system: &[u8], zero: &[u8], one: &[u8], r: u8) -> [u8; 96]
+    ensures { result ≡ secret_of system.now zero.now one.now r }
 {
     add_vectors(
-        system.q(),
-        system.n(),
+        byte_at(system, 0),
+        byte_at(system, 1),
         reply_vector(system, zero, r),
         reply_vector(system, one, r),
     )

@@ -11,6 +11,7 @@ use crate::pieces::{CommitmentsThree, ReplyThree, Rhos, Vectors};
 use commitment::{Domain, Text, digest, string_two};
 use field::{add_vectors, sub_vectors};
 use polynomials::{f, g};
+use slices::byte_at;
 use system::System;
 
 // c0, c1 and c2.
@@ -109,11 +110,11 @@ pub fn first_opening(
 }
 
 // The string of the second opening, whatever v: of c1 for challenge 2, else of c2.
-pub fn second_opening(system: &System, d: Domain, challenge: u8, reply: ReplyThree) -> Text
-    ensures { Room 96 result × ((v : List ℕ) → TextOf (string_of d (opening_at (openings_three system.now.bytes.now v challenge reply) 1)) 96 result) }
+pub fn second_opening(system: &[u8], d: Domain, challenge: u8, reply: ReplyThree) -> Text
+    ensures { Room 96 result × ((v : List ℕ) → TextOf (string_of d (opening_at (openings_three system.now v challenge reply) 1)) 96 result) }
 {
-    let n = system.n();
-    let m = system.m();
+    let n = byte_at(system, 1);
+    let m = byte_at(system, 2);
     let ReplyThree {
         y,
         z,

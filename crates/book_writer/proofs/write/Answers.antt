@@ -1,6 +1,5 @@
 -- What is refused stays, else the book is written. Assumes nothing.
 use mathlib.Core.Path.{sym}
-use Rattle.std.proofs.Common.{rules}
 use Rattle.book_writer.proofs.BookTrip.{taken}
 use Rattle.book_writer.proofs.write.Goals as goal
 
