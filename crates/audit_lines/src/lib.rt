@@ -87,7 +87,7 @@ fn both_strings(text: &mut [u8; 2048], k: u8, first: Text, second: Text) -> usiz
     )
 }
 
-// How many bytes of its buffer each file has.
+// How many bytes of its buffer each file has; they come beside the buffers, so that the promise says what of a file is audited.
 #[derive(Clone, Copy)]
 pub struct Lengths {
     pub system: usize,

@@ -20,6 +20,7 @@ use system::System;
 
 // What an audit finds: the secret; commitment k opened with different vectors; or nothing, by the refusal's number with
 // the record and the round, which are 0 but where a round is rejected.
+// Three numbers and no Refusal, as document 01 has a finding.
 #[derive(Clone, Copy)]
 pub enum Finding {
     Secret,
