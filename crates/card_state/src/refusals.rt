@@ -8,9 +8,7 @@ use crate::session::{Card, CardPhase};
 use field::{all_below, from_slice};
 use polynomials::f;
 use refusal::{Refusal, require};
-use scheme::{
-    Scheme, challenges, commitments_length, drawn_length, is_rounds, lent_length, reply_length,
-};
+use scheme::{Scheme, is_rounds};
 use session_state::require_due;
 use slices::part;
 use system::{System, are_sizes};
@@ -69,11 +67,11 @@ pub fn check_commit<'a>(
     require_due(card.phase, CardPhase::Commit)?;
     let system = System::of_sizes(system, card.q, card.n, card.m)?;
     require(
-        lent.len() == lent_length(card.scheme, card.n, card.m),
+        lent.len() == card.scheme.lent_length(card.n, card.m),
         Refusal::Length,
     )?;
-    require(out_len == commitments_length(card.scheme), Refusal::Length)?;
-    let drawn = part(lent, 0, drawn_length(card.scheme, card.n, card.m));
+    require(out_len == card.scheme.commitments_length(), Refusal::Length)?;
+    let drawn = part(lent, 0, card.scheme.drawn_length(card.n, card.m));
     require(all_below(card.q, drawn), Refusal::Element)?;
     Ok(system)
 }
@@ -106,8 +104,8 @@ pub fn check_reply(card: Card, challenge: u8, out_len: usize) -> Result<(), Refu
     require_due(card.phase, CardPhase::Reply)?;
     require(are_sizes(card.q, card.n, card.m), Refusal::Value)?;
     require(
-        out_len == reply_length(card.scheme, card.n, card.m),
+        out_len == card.scheme.reply_length(card.n, card.m),
         Refusal::Length,
     )?;
-    require(challenge < challenges(card.scheme), Refusal::Challenge)
+    require(challenge < card.scheme.challenges(), Refusal::Challenge)
 }

@@ -10,7 +10,6 @@ use carrier_state::{
     no_turn,
 };
 use exchange::judge;
-use scheme::has_alpha;
 use session_state::{Answered, Verdict, next_count};
 
 // Takes the commitments of a round.
@@ -29,7 +28,7 @@ pub fn take_commitments(c: Carrier, commitments: &[u8]) -> Answered<Carrier, ()>
 fn with_commitments(c: Carrier, commitments: &[u8]) -> Carrier
     ensures { result ≡ with_commitments c commitments.now }
 {
-    let next = if has_alpha(c.scheme) {
+    let next = if c.scheme.has_alpha() {
         CarrierPhase::SetAlpha
     } else {
         CarrierPhase::SetChallenge

@@ -7,7 +7,7 @@ ghost use Rattle.carrier_state.specs.Carrier.{open_refusal, commitments_refusal,
 use crate::session::{Carrier, CarrierPhase};
 use field::all_below;
 use refusal::{Refusal, require};
-use scheme::{Scheme, challenges, commitments_length, is_rounds, reply_length, vectors_length};
+use scheme::{Scheme, is_rounds};
 use session_state::require_due;
 use slices::part;
 use system::System;
@@ -38,7 +38,7 @@ pub fn check_commitments(c: Carrier, commitments: &[u8]) -> Result<(), Refusal>
 {
     require_due(c.phase, CarrierPhase::TakeCommitments)?;
     require(
-        commitments.len() == commitments_length(c.scheme),
+        commitments.len() == c.scheme.commitments_length(),
         Refusal::Length,
     )
 }
@@ -71,7 +71,7 @@ pub fn check_challenge(c: Carrier, challenge: u8) -> Result<(), Refusal>
     ensures { number_of result ≡ challenge_refusal c challenge }
 {
     require_due(c.phase, CarrierPhase::SetChallenge)?;
-    require(challenge < challenges(c.scheme), Refusal::Challenge)
+    require(challenge < c.scheme.challenges(), Refusal::Challenge)
 }
 
 // What `take_reply` refuses.
@@ -83,10 +83,10 @@ pub fn check_reply<'a>(c: Carrier, system: &'a [u8], reply: &'a [u8]) -> Result<
     require_due(c.phase, CarrierPhase::TakeReply)?;
     let system = System::of_sizes(system, c.q, c.n, c.m)?;
     require(
-        reply.len() == reply_length(c.scheme, c.n, c.m),
+        reply.len() == c.scheme.reply_length(c.n, c.m),
         Refusal::Length,
     )?;
-    let vectors = part(reply, 0, vectors_length(c.scheme, c.n, c.m));
+    let vectors = part(reply, 0, c.scheme.vectors_length(c.n, c.m));
     require(all_below(c.q, vectors), Refusal::Element)?;
     Ok(system)
 }

@@ -12,7 +12,7 @@ use commitment::Text;
 use comparable::Records;
 use full_set::answering;
 use openings::{opened_string, same_vectors};
-use scheme::{Scheme, commitment_count};
+use scheme::Scheme;
 use system::System;
 use transcript::domain_in;
 
@@ -96,7 +96,7 @@ fn same_pair(system: &System, records: &Records, r: u8, k: u8) -> bool
 pub fn first_clash(system: &System, records: &Records, r: u8) -> Option<u8>
     ensures { counted result ≡ first_clash records.now.scheme system.now.bytes.now records.now.a.now records.now.b.now records.now.c.now records.now.d.now r }
 {
-    for k in 0..commitment_count(records.scheme) {
+    for k in 0..records.scheme.commitment_count() {
         if !same_pair(system, records, r, k) {
             return Some(k);
         }

@@ -6,10 +6,7 @@ use crate::terms::Terms;
 use card_state::Card;
 use carrier_state::Carrier;
 use refusal::Refusal;
-use scheme::{
-    commitments_length, exchange_length, has_alpha, lent_length, of_rounds, reply_length,
-    turn_length,
-};
+use scheme::of_rounds;
 use session_state::Answered;
 use slices::{byte_at, part, put};
 
@@ -47,12 +44,12 @@ impl Ends {
         requires { (length commitments.old ≡ 343296) × (length exchanges.old ≡ 343296) }
     {
         let each = t.round_length();
-        let length = commitments_length(t.passes());
+        let length = t.passes().commitments_length();
         for r in 0..t.rounds {
             let round = part(rounds, of_rounds(r, each), each);
             let at = of_rounds(r, length);
             self.commit(t, round, &mut commitments[at..at + length])?;
-            let at = of_rounds(r, exchange_length(t.passes(), t.n, t.m));
+            let at = of_rounds(r, t.passes().exchange_length(t.n, t.m));
             self.exchange(t, round, &mut exchanges[at..])?;
         }
         Ok(())
@@ -62,8 +59,8 @@ impl Ends {
     fn exchange(&mut self, t: Terms, round: &[u8], exchange: &mut [u8]) -> Result<(), Refused>
         requires { 1341 ≤ length exchange.old }
     {
-        let asked = lent_length(t.passes(), t.n, t.m);
-        if has_alpha(t.passes()) {
+        let asked = t.passes().lent_length(t.n, t.m);
+        if t.passes().has_alpha() {
             self.answer(t, byte_at(round, asked), exchange)?;
             self.reply(t, byte_at(round, asked + 1), exchange)
         } else {
@@ -73,7 +70,7 @@ impl Ends {
 
     // The card commits, and the carrier takes the commitments.
     fn commit(&mut self, t: Terms, round: &[u8], out: &mut [u8]) -> Result<(), Refused> {
-        let lent = part(round, 0, lent_length(t.passes(), t.n, t.m));
+        let lent = part(round, 0, t.passes().lent_length(t.n, t.m));
         let sent = card::commit(self.card, t.system, lent, out);
         self.card_answered(sent, "card commit")?;
         let taken = carrier::take_commitments(self.carrier, out);
@@ -99,9 +96,9 @@ impl Ends {
     fn reply(&mut self, t: Terms, challenge: u8, exchange: &mut [u8]) -> Result<(), Refused>
         requires { 1341 ≤ length exchange.old }
     {
-        let at = turn_length(t.passes(), t.n, t.m);
+        let at = t.passes().turn_length(t.n, t.m);
         put(exchange, at, &[challenge]);
-        let end = at + 1 + reply_length(t.passes(), t.n, t.m);
+        let end = at + 1 + t.passes().reply_length(t.n, t.m);
         let out = &mut exchange[at + 1..end];
         let set = carrier::set_challenge(self.carrier, challenge);
         self.carrier_answered(set, "carrier set challenge")?;

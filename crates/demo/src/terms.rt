@@ -1,7 +1,7 @@
 // What a session is about.
 ghost use Rattle.std.specs.Prelude.{◌≡◌, ◌≤◌};
 
-use scheme::{Scheme, has_alpha, lent_length, of_rounds, scheme_of};
+use scheme::{Scheme, of_rounds, scheme_of};
 use slices::byte_at;
 
 // What both ends are opened with, v and s aside. q, n and m are the system's.
@@ -39,8 +39,8 @@ impl<'a> Terms<'a> {
     pub fn round_length(self) -> usize
         ensures { result ≤ 863 }
     {
-        let asked = if has_alpha(self.passes()) { 2 } else { 1 };
-        lent_length(self.passes(), self.n, self.m) + asked
+        let asked = if self.passes().has_alpha() { 2 } else { 1 };
+        self.passes().lent_length(self.n, self.m) + asked
     }
 
     // The bytes of a session in the input.

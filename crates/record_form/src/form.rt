@@ -6,7 +6,7 @@ ghost use Rattle.record_form.specs.Form.{exchange_refusal, exchanges_refusal};
 use crate::layout::Header;
 use field::all_below;
 use refusal::{Refusal, require};
-use scheme::{challenges, exchange_length, of_rounds, turn_length, vectors_length};
+use scheme::of_rounds;
 use slices::{byte_at, part};
 
 // What is looked for in an exchange: the first bad byte in file order, or bad elements alone, or a bad challenge alone.
@@ -23,10 +23,10 @@ pub enum Check {
 fn check_exchange(check: Check, h: Header, exchange: &[u8]) -> Result<(), Refusal>
     ensures { number_of result ≡ exchange_refusal check h exchange.now }
 {
-    let turn = turn_length(h.scheme, h.n, h.m);
-    let vectors = vectors_length(h.scheme, h.n, h.m);
+    let turn = h.scheme.turn_length(h.n, h.m);
+    let vectors = h.scheme.vectors_length(h.n, h.m);
     let turn_elements = all_below(h.q, part(exchange, 0, turn));
-    let challenge_value = byte_at(exchange, turn) < challenges(h.scheme);
+    let challenge_value = byte_at(exchange, turn) < h.scheme.challenges();
     let reply_elements = all_below(h.q, part(exchange, turn + 1, vectors));
     match check {
         Check::FileOrder => {
@@ -46,7 +46,7 @@ fn check_exchange(check: Check, h: Header, exchange: &[u8]) -> Result<(), Refusa
 pub fn check_exchanges(check: Check, h: Header, exchanges: &[u8]) -> Result<(), Refusal>
     ensures { number_of result ≡ exchanges_refusal check h exchanges.now }
 {
-    let each = exchange_length(h.scheme, h.n, h.m);
+    let each = h.scheme.exchange_length(h.n, h.m);
     for r in 0..h.rounds {
         check_exchange(check, h, part(exchanges, of_rounds(r, each), each))?;
     }

@@ -3,7 +3,7 @@ ghost use Rattle.std.specs.Prelude.{◌≡◌, ◌+◌, ◌≤◌, length};
 ghost use Rattle.record_form.specs.Record.{header_of, layout_of, record_length, entry as entry_of, table as table_of};
 ghost use Rattle.record_form.specs.Form.{are_values};
 
-use scheme::{Scheme, commitments_length, exchange_length, is_rounds, of_rounds, scheme_of};
+use scheme::{Scheme, is_rounds, of_rounds, scheme_of};
 use slices::{put, put_both, word};
 use system::are_sizes;
 
@@ -46,8 +46,8 @@ impl Header {
         ensures { (result ≡ layout_of self) × (result.exchanges.offset + result.exchanges.length ≤ 1000000) }
     {
         let m = self.m as usize;
-        let commitments = of_rounds(self.rounds, commitments_length(self.scheme));
-        let exchanges = of_rounds(self.rounds, exchange_length(self.scheme, self.n, self.m));
+        let commitments = of_rounds(self.rounds, self.scheme.commitments_length());
+        let exchanges = of_rounds(self.rounds, self.scheme.exchange_length(self.n, self.m));
         Layout {
             edition: 1,
             header: self,

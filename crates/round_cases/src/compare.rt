@@ -1,12 +1,12 @@
 // Outputs held against the pieces expected. What is beyond the end of a piece is zero, as in the engine's vectors.
 use cases::Small;
 use round::{CommitmentsFive, CommitmentsThree, Middle, ReplyFive, ReplyThree};
-use scheme::{Scheme, commitments_length, reply_length};
+use scheme::Scheme;
 use slices::bytes_at;
 
 // c0, c1 and c2 of three passes.
 pub fn same_three_commitments(made: CommitmentsThree, expected: &Small) -> bool {
-    expected.length == commitments_length(Scheme::ThreePass)
+    expected.length == Scheme::ThreePass.commitments_length()
         && made.c0 == bytes_at(&expected.bytes, 0)
         && made.c1 == bytes_at(&expected.bytes, 32)
         && made.c2 == bytes_at(&expected.bytes, 64)
@@ -14,7 +14,7 @@ pub fn same_three_commitments(made: CommitmentsThree, expected: &Small) -> bool 
 
 // c0 and c1 of five passes.
 pub fn same_five_commitments(made: CommitmentsFive, expected: &Small) -> bool {
-    expected.length == commitments_length(Scheme::FivePass)
+    expected.length == Scheme::FivePass.commitments_length()
         && made.c0 == bytes_at(&expected.bytes, 0)
         && made.c1 == bytes_at(&expected.bytes, 32)
 }
@@ -29,7 +29,7 @@ pub fn same_middle(made: Middle, expected: &Small, n: u8, m: u8) -> bool {
 
 pub fn same_reply_three(made: ReplyThree, expected: &Small, n: u8, m: u8) -> bool {
     let wanted = exchange::read_reply_three(&expected.bytes, n, m);
-    expected.length == reply_length(Scheme::ThreePass, n, m)
+    expected.length == Scheme::ThreePass.reply_length(n, m)
         && made.x == wanted.x
         && made.y == wanted.y
         && made.z == wanted.z
@@ -39,7 +39,7 @@ pub fn same_reply_three(made: ReplyThree, expected: &Small, n: u8, m: u8) -> boo
 
 pub fn same_reply_five(made: ReplyFive, expected: &Small, n: u8, m: u8) -> bool {
     let wanted = exchange::read_reply_five(&expected.bytes, n);
-    expected.length == reply_length(Scheme::FivePass, n, m)
+    expected.length == Scheme::FivePass.reply_length(n, m)
         && made.x == wanted.x
         && made.rho == wanted.rho
 }

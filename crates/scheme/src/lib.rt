@@ -6,7 +6,7 @@
 
 ghost use Rattle.std.specs.Prelude.{◌≡◌, ◌*◌, ◌≤◌};
 ghost use Rattle.scheme.specs.Scheme.{Decodes};
-ghost use Rattle.scheme.specs.Scheme.{byte_of, scheme_of, is_scheme, is_rounds, challenges as challenges_of, commitment_count, opened_count, has_alpha};
+ghost use Rattle.scheme.specs.Scheme.{byte_of, scheme_of, is_scheme, is_rounds, challenges, commitment_count, opened_count, has_alpha};
 ghost use Rattle.scheme.specs.Scheme.{drawn_length, commitments_length, lent_length, turn_length, vectors_length, rhos_length, reply_length, exchange_length};
 
 use refusal::Refusal;
@@ -64,121 +64,123 @@ pub fn is_rounds(rounds: u8) -> bool
     1 <= rounds
 }
 
-// How many challenges there are; they are counted from 0.
-#[tactic(auto, unfolding(crate::specs::Scheme::challenges))]
-pub fn challenges(scheme: Scheme) -> u8
-    ensures { result ≡ challenges_of scheme }
-{
-    match scheme {
-        Scheme::ThreePass => 3,
-        Scheme::FivePass => 2,
+impl Scheme {
+    // How many challenges there are; they are counted from 0.
+    #[tactic(auto, unfolding(crate::specs::Scheme::challenges))]
+    pub fn challenges(self) -> u8
+        ensures { result ≡ challenges self }
+    {
+        match self {
+            Scheme::ThreePass => 3,
+            Scheme::FivePass => 2,
+        }
     }
-}
 
-// How many commitments a round has, and ρ are lent for it.
-#[tactic(auto, unfolding(crate::specs::Scheme::commitment_count))]
-pub fn commitment_count(scheme: Scheme) -> u8
-    ensures { (result ≡ commitment_count scheme) × (result ≤ 3) }
-{
-    match scheme {
-        Scheme::ThreePass => 3,
-        Scheme::FivePass => 2,
+    // How many commitments a round has, and ρ are lent for it.
+    #[tactic(auto, unfolding(crate::specs::Scheme::commitment_count))]
+    pub fn commitment_count(self) -> u8
+        ensures { (result ≡ commitment_count self) × (result ≤ 3) }
+    {
+        match self {
+            Scheme::ThreePass => 3,
+            Scheme::FivePass => 2,
+        }
     }
-}
 
-// How many of them a reply opens.
-#[tactic(auto, unfolding(crate::specs::Scheme::opened_count))]
-pub fn opened_count(scheme: Scheme) -> u8
-    ensures { (result ≡ opened_count scheme) × (result ≤ 2) }
-{
-    match scheme {
-        Scheme::ThreePass => 2,
-        Scheme::FivePass => 1,
+    // How many of them a reply opens.
+    #[tactic(auto, unfolding(crate::specs::Scheme::opened_count))]
+    pub fn opened_count(self) -> u8
+        ensures { (result ≡ opened_count self) × (result ≤ 2) }
+    {
+        match self {
+            Scheme::ThreePass => 2,
+            Scheme::FivePass => 1,
+        }
     }
-}
 
-// Whether α, t1 and e1 come between commitments and challenge.
-#[tactic(auto, unfolding(crate::specs::Scheme::has_alpha))]
-pub fn has_alpha(scheme: Scheme) -> bool
-    ensures { result ≡ has_alpha scheme }
-{
-    match scheme {
-        Scheme::ThreePass => false,
-        Scheme::FivePass => true,
+    // Whether α, t1 and e1 come between commitments and challenge.
+    #[tactic(auto, unfolding(crate::specs::Scheme::has_alpha))]
+    pub fn has_alpha(self) -> bool
+        ensures { result ≡ has_alpha self }
+    {
+        match self {
+            Scheme::ThreePass => false,
+            Scheme::FivePass => true,
+        }
     }
-}
 
-// The elements that are lent for a round.
-#[tactic(auto, unfolding(crate::specs::Scheme::drawn_length))]
-pub fn drawn_length(scheme: Scheme, n: u8, m: u8) -> usize
-    ensures { (result ≡ drawn_length scheme n m) × (result ≤ 765) }
-{
-    match scheme {
-        Scheme::ThreePass => n as usize + n as usize + m as usize,
-        Scheme::FivePass => n as usize + n as usize + m as usize,
+    // The elements that are lent for a round.
+    #[tactic(auto, unfolding(crate::specs::Scheme::drawn_length))]
+    pub fn drawn_length(self, n: u8, m: u8) -> usize
+        ensures { (result ≡ drawn_length self n m) × (result ≤ 765) }
+    {
+        match self {
+            Scheme::ThreePass => usize::from(n) + usize::from(n) + usize::from(m),
+            Scheme::FivePass => usize::from(n) + usize::from(n) + usize::from(m),
+        }
     }
-}
 
-// The bytes of a round's commitments.
-#[tactic(auto, unfolding(crate::specs::Scheme::commitments_length))]
-pub fn commitments_length(scheme: Scheme) -> usize
-    ensures { (result ≡ commitments_length scheme) × (result ≤ 96) }
-{
-    32 * commitment_count(scheme) as usize
-}
-
-// The bytes that are lent for a round: elements, then ρ.
-#[tactic(auto, unfolding(crate::specs::Scheme::lent_length))]
-pub fn lent_length(scheme: Scheme, n: u8, m: u8) -> usize
-    ensures { (result ≡ lent_length scheme n m) × (result ≤ 861) }
-{
-    drawn_length(scheme, n, m) + commitments_length(scheme)
-}
-
-// The bytes of α, t1 and e1, where there are any.
-#[tactic(auto, unfolding(crate::specs::Scheme::turn_length))]
-pub fn turn_length(scheme: Scheme, n: u8, m: u8) -> usize
-    ensures { (result ≡ turn_length scheme n m) × (result ≤ 511) }
-{
-    match scheme {
-        Scheme::ThreePass => 0,
-        Scheme::FivePass => 1 + n as usize + m as usize,
+    // The bytes of a round's commitments.
+    #[tactic(auto, unfolding(crate::specs::Scheme::commitments_length))]
+    pub fn commitments_length(self) -> usize
+        ensures { (result ≡ commitments_length self) × (result ≤ 96) }
+    {
+        32 * usize::from(self.commitment_count())
     }
-}
 
-// The elements of a reply.
-#[tactic(auto, unfolding(crate::specs::Scheme::vectors_length))]
-pub fn vectors_length(scheme: Scheme, n: u8, m: u8) -> usize
-    ensures { (result ≡ vectors_length scheme n m) × (result ≤ 765) }
-{
-    match scheme {
-        Scheme::ThreePass => n as usize + n as usize + m as usize,
-        Scheme::FivePass => n as usize,
+    // The bytes that are lent for a round: elements, then ρ.
+    #[tactic(auto, unfolding(crate::specs::Scheme::lent_length))]
+    pub fn lent_length(self, n: u8, m: u8) -> usize
+        ensures { (result ≡ lent_length self n m) × (result ≤ 861) }
+    {
+        self.drawn_length(n, m) + self.commitments_length()
     }
-}
 
-// The bytes of ρ in a reply.
-#[tactic(auto, unfolding(crate::specs::Scheme::rhos_length))]
-pub fn rhos_length(scheme: Scheme) -> usize
-    ensures { (result ≡ rhos_length scheme) × (result ≤ 64) }
-{
-    32 * opened_count(scheme) as usize
-}
+    // The bytes of α, t1 and e1, where there are any.
+    #[tactic(auto, unfolding(crate::specs::Scheme::turn_length))]
+    pub fn turn_length(self, n: u8, m: u8) -> usize
+        ensures { (result ≡ turn_length self n m) × (result ≤ 511) }
+    {
+        match self {
+            Scheme::ThreePass => 0,
+            Scheme::FivePass => 1 + usize::from(n) + usize::from(m),
+        }
+    }
 
-// The bytes of a reply.
-#[tactic(auto, unfolding(crate::specs::Scheme::reply_length))]
-pub fn reply_length(scheme: Scheme, n: u8, m: u8) -> usize
-    ensures { (result ≡ reply_length scheme n m) × (result ≤ 829) }
-{
-    vectors_length(scheme, n, m) + rhos_length(scheme)
-}
+    // The elements of a reply.
+    #[tactic(auto, unfolding(crate::specs::Scheme::vectors_length))]
+    pub fn vectors_length(self, n: u8, m: u8) -> usize
+        ensures { (result ≡ vectors_length self n m) × (result ≤ 765) }
+    {
+        match self {
+            Scheme::ThreePass => usize::from(n) + usize::from(n) + usize::from(m),
+            Scheme::FivePass => usize::from(n),
+        }
+    }
 
-// The bytes of an exchange: α, t1 and e1 in scheme 5; the challenge; the reply.
-#[tactic(auto, unfolding(crate::specs::Scheme::exchange_length))]
-pub fn exchange_length(scheme: Scheme, n: u8, m: u8) -> usize
-    ensures { (result ≡ exchange_length scheme n m) × (result ≤ 1341) }
-{
-    turn_length(scheme, n, m) + (1 + reply_length(scheme, n, m))
+    // The bytes of ρ in a reply.
+    #[tactic(auto, unfolding(crate::specs::Scheme::rhos_length))]
+    pub fn rhos_length(self) -> usize
+        ensures { (result ≡ rhos_length self) × (result ≤ 64) }
+    {
+        32 * usize::from(self.opened_count())
+    }
+
+    // The bytes of a reply.
+    #[tactic(auto, unfolding(crate::specs::Scheme::reply_length))]
+    pub fn reply_length(self, n: u8, m: u8) -> usize
+        ensures { (result ≡ reply_length self n m) × (result ≤ 829) }
+    {
+        self.vectors_length(n, m) + self.rhos_length()
+    }
+
+    // The bytes of an exchange: α, t1 and e1 in scheme 5; the challenge; the reply.
+    #[tactic(auto, unfolding(crate::specs::Scheme::exchange_length))]
+    pub fn exchange_length(self, n: u8, m: u8) -> usize
+        ensures { (result ≡ exchange_length self n m) × (result ≤ 1341) }
+    {
+        self.turn_length(n, m) + (1 + self.reply_length(n, m))
+    }
 }
 
 // The bytes of so many rounds: also where, among the bytes of all rounds, the next one starts.
@@ -186,5 +188,5 @@ pub fn of_rounds(rounds: u8, each: usize) -> usize
     requires { each ≤ 1341 }
     ensures { (result ≡ rounds * each) × (result ≤ 341955) }
 {
-    rounds as usize * each
+    usize::from(rounds) * each
 }

@@ -15,7 +15,7 @@ use exchange::{Lent, read_lent, write_reply_three, write_three_commitments};
 use field::{all_below, from_slice, slot};
 use refusal::{Refusal, require};
 use round::{Vectors, commitments_three, reply_three, simulated};
-use scheme::{Scheme, commitments_length, drawn_length, reply_length};
+use scheme::Scheme;
 use slices::part;
 use system::System;
 
@@ -35,13 +35,13 @@ fn check_call(
     let q = system.q();
     let n = system.n();
     let m = system.m();
-    let drawn = n as usize + drawn_length(Scheme::ThreePass, n, m);
-    let rhos = commitments_length(Scheme::ThreePass);
+    let drawn = n as usize + Scheme::ThreePass.drawn_length(n, m);
+    let rhos = Scheme::ThreePass.commitments_length();
     require(v.len() == m as usize, Refusal::Length)?;
     require(lent.len() == drawn + rhos, Refusal::Length)?;
     require(commitments_len == rhos, Refusal::Length)?;
     require(
-        reply_len == reply_length(Scheme::ThreePass, n, m),
+        reply_len == Scheme::ThreePass.reply_length(n, m),
         Refusal::Length,
     )?;
     require(all_below(q, v), Refusal::Element)?;

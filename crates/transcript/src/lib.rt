@@ -17,7 +17,7 @@ use exchange::judge;
 use field::from_slice;
 use record::{body_of, header_of, read};
 use refusal::{Refusal, require};
-use scheme::{commitments_length, exchange_length, of_rounds, reply_length, turn_length};
+use scheme::of_rounds;
 use slices::{byte_at, part};
 use system::{System, has_sizes};
 
@@ -66,7 +66,7 @@ pub fn round_commitments(bytes: &[u8], r: u8) -> &[u8]
     ensures { result.now ≡ round_commitments bytes.now r }
 {
     let h = header_of(bytes);
-    let each = commitments_length(h.scheme);
+    let each = h.scheme.commitments_length();
     part(
         body_of(bytes, h.layout().commitments),
         of_rounds(r, each),
@@ -80,7 +80,7 @@ pub fn round_exchange(bytes: &[u8], r: u8) -> &[u8]
     ensures { result.now ≡ round_exchange bytes.now r }
 {
     let h = header_of(bytes);
-    let each = exchange_length(h.scheme, h.n, h.m);
+    let each = h.scheme.exchange_length(h.n, h.m);
     part(
         body_of(bytes, h.layout().exchanges),
         of_rounds(r, each),
@@ -94,7 +94,7 @@ pub fn round_turn(bytes: &[u8], r: u8) -> &[u8]
     ensures { result.now ≡ round_turn bytes.now r }
 {
     let h = header_of(bytes);
-    part(round_exchange(bytes, r), 0, turn_length(h.scheme, h.n, h.m))
+    part(round_exchange(bytes, r), 0, h.scheme.turn_length(h.n, h.m))
 }
 
 // The challenge of a round.
@@ -103,7 +103,7 @@ pub fn round_challenge(bytes: &[u8], r: u8) -> u8
     ensures { result ≡ round_challenge bytes.now r }
 {
     let h = header_of(bytes);
-    byte_at(round_exchange(bytes, r), turn_length(h.scheme, h.n, h.m))
+    byte_at(round_exchange(bytes, r), h.scheme.turn_length(h.n, h.m))
 }
 
 // The reply of a round.
@@ -114,8 +114,8 @@ pub fn round_reply(bytes: &[u8], r: u8) -> &[u8]
     let h = header_of(bytes);
     part(
         round_exchange(bytes, r),
-        turn_length(h.scheme, h.n, h.m) + 1,
-        reply_length(h.scheme, h.n, h.m),
+        h.scheme.turn_length(h.n, h.m) + 1,
+        h.scheme.reply_length(h.n, h.m),
     )
 }
 
