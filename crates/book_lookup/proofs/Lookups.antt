@@ -66,11 +66,6 @@ answered_some b label key place i taken here some is =
     let found = is ∙ ap (key_in b) index in
     (λ j. record { answer = Found; key = found j }) ∙ sym (looked_found b label (sym taken) (λ nowhere. absurd (omega (arith, at, nowhere))))
 
--- the book is not refused where the call is not
-pub book_taken : (b label : List ℕ) → 0 ≡ lookup_refusal b label → book_refusal b ≡ 0
-unfolding lookup_refusal
-book_taken b label none = first_zero _ _ (sym none)
-
 -- ---- the claims
 
 -- which case an answer is

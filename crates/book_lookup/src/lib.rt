@@ -4,24 +4,22 @@
 // refusal: the book's own, then Length for a label that has not ten bytes, then LabelHalf for a wrong half.
 #![tactic(auto)]
 
-ghost use Rattle.std.specs.Prelude.{◌≡◌};
+ghost use Rattle.std.specs.Prelude.{◌≡◌, IfOk};
 ghost use Rattle.refusal.specs.Refusal.{number_of, counted};
 ghost use Rattle.book_form.specs.Book.{front_in, table_in};
-ghost use Rattle.book_reader.specs.Reader.{book_refusal};
 ghost use Rattle.book_lookup.specs.Lookup.{place_in, key_in, lookup_refusal, lookup_of, answered};
 
-use book_reader::{key_at, read, table_of};
+use book_reader::{Book, key_at, table_of};
 use field::from_slice;
 use label::{is_below, is_label};
 use refusal::{Refusal, require};
 use slices::equal;
 
 // Which card has this label, counted from 0. The labels rise, so a half of the cards that are left is left out each time.
-fn place_of<'a>(book: &'a [u8], label: &'a [u8]) -> Option<u32>
-    requires { book_refusal book.now ≡ 0 }
-    ensures { counted result ≡ place_in (table_in book.now) (front_in book.now).count label.now }
+fn place_of(book: &Book, label: &[u8]) -> Option<u32>
+    ensures { counted result ≡ place_in (table_in book.now.bytes.now) (front_in book.now.bytes.now).count label.now }
 {
-    let (entries, _) = table_of(book).as_chunks::<14>();
+    let (entries, _) = table_of(book.bytes).as_chunks::<14>();
     let place = entries.partition_point(|entry| is_below(&entry[..10], label));
     let entry = entries.get(place)?;
     equal(&entry[..10], label).then_some(place as u32)
@@ -35,14 +33,16 @@ fn key_of(book: &[u8], i: u32) -> [u8; 96]
     from_slice(key_at(book, i))
 }
 
-// Refuses a call.
+// The book of a call, or why the call is refused.
 #[tactic(auto, using(refusal::proofs::Answers::chain), unfolding(crate::specs::Lookup::lookup_refusal))]
-fn check_call<'a>(book: &'a [u8], label: &'a [u8]) -> Result<(), Refusal>
-    ensures { number_of result ≡ lookup_refusal book.now label.now }
+fn check_call<'a>(book: &'a [u8], label: &[u8]) -> Result<Book<'a>, Refusal>
+    ensures refusal { number_of result ≡ lookup_refusal book.now label.now }
+    ensures bytes { IfOk result (λ checked. checked.bytes.now ≡ book.now) }
 {
-    read(book)?;
+    let checked = Book::new(book)?;
     require(label.len() == 10, Refusal::Length)?;
-    require(is_label(label), Refusal::LabelHalf)
+    require(is_label(label), Refusal::LabelHalf)?;
+    Ok(checked)
 }
 
 // Looks a label up in a book: any bytes.
@@ -50,8 +50,8 @@ pub fn lookup<'a>(book: &'a [u8], label: &'a [u8]) -> Result<Option<[u8; 96]>, R
     ensures answer { answered result ≡ lookup_of book.now label.now }
     ensures refusal { number_of result ≡ lookup_refusal book.now label.now }
 {
-    check_call(book, label)?;
-    let Some(i) = place_of(book, label) else {
+    let checked = check_call(book, label)?;
+    let Some(i) = place_of(&checked, label) else {
         return Ok(None);
     };
     Ok(Some(key_of(book, i)))

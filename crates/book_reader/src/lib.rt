@@ -2,7 +2,7 @@
 //
 // The entry `read` takes any bytes and answers count, q, n and m, or the refusal: Form for under 7 bytes or a count above 2,000,
 // Value for q, n or m, Form for the length or an offset of the table, then LabelHalf or LabelOrder for the first label at fault,
-// then Element for a key byte.
+// then Element for a key byte. What it does not refuse is a `Book`.
 #![tactic(auto)]
 
 ghost use Rattle.std.specs.Prelude.{◌≡◌, ◌+◌, ◌*◌, ◌≤◌, length, IfOk};
@@ -95,15 +95,40 @@ fn check_front(front: Front, length: usize) -> Result<(), Refusal>
     require(length == front.book_length(), Refusal::Form)
 }
 
-// Reads a book: any bytes.
-pub fn read(bytes: &[u8]) -> Result<Front, Refusal>
-    ensures refusal { number_of result ≡ book_refusal bytes.now }
-    ensures front { IfOk result (λ front. front ≡ front_in bytes.now) }
+// Refuses a book's bytes, but those that are well-formed.
+fn check(bytes: &[u8]) -> Result<(), Refusal>
+    ensures { number_of result ≡ book_refusal bytes.now }
 {
     let front = front_of(bytes);
     check_front(front, bytes.len())?;
     check_offsets(table_of(bytes), front)?;
     labels_of(bytes).check(front.count)?;
-    require(all_below(front.q, keys_of(bytes)), Refusal::Element)?;
-    Ok(front)
+    require(all_below(front.q, keys_of(bytes)), Refusal::Element)
+}
+
+// The bytes of a well-formed book.
+#[derive(Clone, Copy)]
+pub struct Book<'a> {
+    pub bytes: &'a [u8],
+    ghost well_formed: { book_refusal bytes.now ≡ 0 },
+}
+
+impl<'a> Book<'a> {
+    // The book that the bytes are, or why they are none.
+    pub fn new(bytes: &'a [u8]) -> Result<Book<'a>, Refusal>
+        ensures refusal { number_of result ≡ book_refusal bytes.now }
+        ensures bytes { IfOk result (λ book. book.bytes.now ≡ bytes.now) }
+    {
+        check(bytes)?;
+        Ok(Book { bytes })
+    }
+}
+
+// Reads a book: any bytes.
+pub fn read(bytes: &[u8]) -> Result<Front, Refusal>
+    ensures refusal { number_of result ≡ book_refusal bytes.now }
+    ensures front { IfOk result (λ front. front ≡ front_in bytes.now) }
+{
+    Book::new(bytes)?;
+    Ok(front_of(bytes))
 }

@@ -29,24 +29,24 @@ pub returns-in_err-entry : goal.returns-in_err-entry
 returns-in_err-entry c =
     let none : c.from_residual.result ≡ None = search rules in
     let beyond : length c.as_chunks.result.0.now ≤ c.partition_point-place.result = search rules in
-    let es = entries_of _ _ _ c.requires c.table_of.ensures c.as_chunks.ensures.front in
-    let b = bound_in c.args.book.now c.args.label.now _ _ c.requires es.0 c.partition_point-place.ensures.bound
+    let es = entries_of _ _ _ c.args.book.now.well_formed c.table_of.ensures c.as_chunks.ensures.front in
+    let b = bound_in c.args.book.now.bytes.now c.args.label.now _ _ c.args.book.now.well_formed es.0 c.partition_point-place.ensures.bound
     (λ parted. IsPartitionPoint-from_clause (entry_below c.args.label.now) _ _ c.partition_point-place.ensures.partitioned parted (λ a r q k. search rules)) in
-    ap counted none ∙ place_none _ _ _ (labels_rise c.args.book.now c.requires) _ b (λ below. absurd (omega (arith, beyond, below, es.1)))
+    ap counted none ∙ place_none _ _ _ (labels_rise c.args.book.now.bytes.now c.args.book.now.well_formed) _ b (λ below. absurd (omega (arith, beyond, below, es.1)))
 
 pub overflow_cast-place : goal.overflow_cast-place
 overflow_cast-place c =
-    let es = entries_of _ _ _ c.requires c.table_of.ensures c.as_chunks.ensures.front in
+    let es = entries_of _ _ _ c.args.book.now.well_formed c.table_of.ensures c.as_chunks.ensures.front in
     omega (arith, es.2, c.partition_point-place.ensures.bound)
 
 pub returns : goal.returns
 returns c =
     let inside : c.partition_point-place.result < length c.as_chunks.result.0.now = search rules in
     let is : c.in_ok-entry.entry.now ≡ get_or c.as_chunks.result.0.now c.partition_point-place.result [] = search rules in
-    let es = entries_of _ _ _ c.requires c.table_of.ensures c.as_chunks.ensures.front in
-    let below : c.partition_point-place.result < (front_in c.args.book.now).count = omega (arith, inside, es.1) in
-    let b = bound_in c.args.book.now c.args.label.now _ _ c.requires es.0 c.partition_point-place.ensures.bound
+    let es = entries_of _ _ _ c.args.book.now.well_formed c.table_of.ensures c.as_chunks.ensures.front in
+    let below : c.partition_point-place.result < (front_in c.args.book.now.bytes.now).count = omega (arith, inside, es.1) in
+    let b = bound_in c.args.book.now.bytes.now c.args.label.now _ _ c.args.book.now.well_formed es.0 c.partition_point-place.ensures.bound
     (λ parted. IsPartitionPoint-from_clause (entry_below c.args.label.now) _ _ c.partition_point-place.ensures.partitioned parted (λ a r q k. search rules)) in
-    let label = ap (take 10) is ∙ ap (λ (l : List (List ℕ)). take 10 (get_or l c.partition_point-place.result [])) es.0 ∙ label_entry (table_in c.args.book.now) _ _ [] below in
+    let label = ap (take 10) is ∙ ap (λ (l : List (List ℕ)). take 10 (get_or l c.partition_point-place.result [])) es.0 ∙ label_entry (table_in c.args.book.now.bytes.now) _ _ [] below in
     ap counted c.then_some.ensures ∙
-    place_at _ _ _ (labels_rise c.args.book.now c.requires) _ _ b below (c.equal.ensures ∙ ap (λ (l : List ℕ). same l c.args.label.now) label)
+    place_at _ _ _ (labels_rise c.args.book.now.bytes.now c.args.book.now.well_formed) _ _ b below (c.equal.ensures ∙ ap (λ (l : List ℕ). same l c.args.label.now) label)

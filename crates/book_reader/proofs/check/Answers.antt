@@ -7,10 +7,8 @@ use native.Mathlib.Omega.{arith}
 use native.Mathlib.Nat.{le_refl}
 use lib.ListN.{length, take, drop, length-drop}
 use lib.Seq.{length-take-le}
-use Rattle.std.specs.Prelude.{Result, Err}
 use Rattle.std.proofs.Common.{rules}
-use Rattle.refusal.specs.declared.Refusal.{Refusal}
-use Rattle.refusal.specs.Refusal.{unless, number, number_of}
+use Rattle.refusal.specs.Refusal.{unless}
 use Rattle.refusal.proofs.Refusals.{later_zero, equal_holds}
 use Rattle.refusal.proofs.Answers.{ends_chain, goes_on_chain}
 use Rattle.field.specs.Vector.{all_below}
@@ -19,7 +17,7 @@ use Rattle.book_form.specs.Book.{book_length, front_in, table_in, fields_in}
 use Rattle.book_form.specs.Labels.{labels_refusal}
 use Rattle.book_form.proofs.BookLayout.{room}
 use Rattle.book_reader.specs.Reader.{offsets_refusal, front_refusal, book_refusal}
-use Rattle.book_reader.proofs.read.Goals as goal
+use Rattle.book_reader.proofs.check.Goals as goal
 
 whole : (n : ℕ) (h : Front) → front_refusal h n ≡ 0 → n ≡ book_length h
 unfolding front_refusal
@@ -47,22 +45,18 @@ module _ (b : List ℕ) (h : Front) (front : h ≡ front_in b) where
   of_keys : (x : ℕ) (t : Bool) (k : List ℕ) → x ≡ unless t 3 → t ≡ all_below h.q k → k ≡ (fields_in b).keys → x ≡ unless (all_below (front_in b).q (fields_in b).keys) 3
   of_keys x t k is tested keys = is ∙ ap (λ (u : Bool). unless u 3) (tested ∙ ap₂ (λ (g : Front) (l : List ℕ). all_below g.q l) front keys)
 
--- what is handed on is the last test's refusal
-handed_on : {A : Type 0} (answer : Result A Refusal) (refusal : Refusal) (last : ℕ) → answer ≡ Err refusal → number refusal ≡ last → number_of answer ≡ last
-handed_on answer refusal last handed is = rw handed is
-
 pub check_offsets-requires : goal.check_offsets-requires
 check_offsets-requires c =
     table_room _ _ _ c.in_ok-check_front.ensures c.front_of-front.ensures c.table_of.ensures
 
-pub returns-in_err-check_front-clause-refusal : goal.returns-in_err-check_front-clause-refusal
+pub returns-in_err-check_front : goal.returns-in_err-check_front
 unfolding book_refusal
-returns-in_err-check_front-clause-refusal c =
+returns-in_err-check_front c =
     ends_chain _ _ _ _ (search rules) (of_front _ _ c.front_of-front.ensures _ c.in_err-check_front.ensures)
 
-pub returns-in_err-check_offsets-clause-refusal : goal.returns-in_err-check_offsets-clause-refusal
+pub returns-in_err-check_offsets : goal.returns-in_err-check_offsets
 unfolding book_refusal
-returns-in_err-check_offsets-clause-refusal c =
+returns-in_err-check_offsets c =
     let front = c.front_of-front.ensures in
     goes_on_chain _ _ _ (of_front _ _ front _ c.in_ok-check_front.ensures)
     (ends_chain _ _ _ _ (search rules) (of_offsets _ _ front _ _ c.in_err-check_offsets.ensures c.table_of.ensures))
@@ -73,28 +67,19 @@ check-requires c =
     let room = table_room _ _ _ c.in_ok-check_front.ensures c.front_of-front.ensures labels.0 in
     (rw labels.1 room, rw labels.1 (omega arith))
 
-pub returns-in_err-check-clause-refusal : goal.returns-in_err-check-clause-refusal
+pub returns-in_err-check : goal.returns-in_err-check
 unfolding book_refusal
-returns-in_err-check-clause-refusal c =
+returns-in_err-check c =
     let front = c.front_of-front.ensures in
     goes_on_chain _ _ _ (of_front _ _ front _ c.in_ok-check_front.ensures)
     (goes_on_chain _ _ _ (of_offsets _ _ front _ _ c.in_ok-check_offsets.ensures c.table_of.ensures)
     (ends_chain _ _ _ _ (search rules) (of_labels _ _ front _ _ _ c.in_err-check.ensures c.labels_of.ensures)))
 
-pub returns-in_err-require-clause-refusal : goal.returns-in_err-require-clause-refusal
+pub returns : goal.returns
 unfolding book_refusal
-returns-in_err-require-clause-refusal c =
+returns c =
     let front = c.front_of-front.ensures in
     goes_on_chain _ _ _ (of_front _ _ front _ c.in_ok-check_front.ensures)
     (goes_on_chain _ _ _ (of_offsets _ _ front _ _ c.in_ok-check_offsets.ensures c.table_of.ensures)
     (goes_on_chain _ _ _ (of_labels _ _ front _ _ _ c.in_ok-check.ensures c.labels_of.ensures)
-    (handed_on _ _ _ (search rules) (of_keys _ _ front _ _ _ c.in_err-require.ensures c.all_below.ensures c.keys_of.ensures))))
-
-pub returns-clause-refusal : goal.returns-clause-refusal
-unfolding book_refusal
-returns-clause-refusal c =
-    let front = c.front_of-front.ensures in
-    goes_on_chain _ _ _ (of_front _ _ front _ c.in_ok-check_front.ensures)
-    (goes_on_chain _ _ _ (of_offsets _ _ front _ _ c.in_ok-check_offsets.ensures c.table_of.ensures)
-    (goes_on_chain _ _ _ (of_labels _ _ front _ _ _ c.in_ok-check.ensures c.labels_of.ensures)
-    (of_keys _ _ front _ _ _ c.in_ok-require.ensures c.all_below.ensures c.keys_of.ensures)))
+    (of_keys _ _ front _ _ _ c.require.ensures c.all_below.ensures c.keys_of.ensures)))
