@@ -23,7 +23,7 @@ impl<'a> Labels<'a> {
         part(self.bytes, of_cards(i, self.each), 10)
     }
 
-    // The same where it is known to be whole.
+    // The same where it is known to be whole. Three contracts ask so of i: an index's bound is no fact of the labels, which a type could hold.
     fn whole_at(&self, i: u32) -> &'a [u8]
         requires { i * self.now.each + 10 ≤ length self.now.bytes.now }
         ensures { result.now ≡ label_at self.now.each self.now.bytes.now i }

@@ -5,7 +5,7 @@
 // output's too, then LabelHalf or LabelOrder for the first label at fault, then Element for a key byte.
 #![tactic(auto)]
 
-ghost use Rattle.std.specs.Prelude.{◌≡◌, ◌+◌, ◌*◌, ◌≤◌, ◌<◌, ◌++◌, length, take};
+ghost use Rattle.std.specs.Prelude.{◌≡◌, ◌+◌, ◌*◌, ◌≤◌, ◌<◌, ◌++◌, length, take, IfOk};
 ghost use Rattle.slices.specs.Slices.{placed, joined};
 ghost use Rattle.refusal.specs.Refusal.{kept, number_of};
 ghost use Rattle.book_form.specs.Book.{book_length, entry, written};
@@ -27,57 +27,76 @@ fn check_lengths(front: Front, labels: usize, keys: usize, out: usize) -> Result
     require(out == front.book_length(), Refusal::Length)
 }
 
-// Refuses a call, its output's length among its arguments: the first that applies.
-#[tactic(auto, using(refusal::proofs::Answers::chain), unfolding(crate::specs::Writer::write_refusal))]
-fn check_call<'a>(front: Front, labels: &'a [u8], keys: &'a [u8], out: usize) -> Result<(), Refusal>
-    ensures { number_of result ≡ write_refusal (fields_of front labels.now keys.now) out }
-{
-    check_lengths(front, labels.len(), keys.len(), out)?;
-    let labels = Labels {
-        bytes: labels,
-        each: 10,
-    };
-    labels.check(front.count)?;
-    require(all_below(front.q, keys), Refusal::Element)
+// The cards of a book that is not refused: all labels and all keys, one behind the other.
+#[derive(Clone, Copy)]
+struct Cards<'a> {
+    front: Front,
+    labels: &'a [u8],
+    keys: &'a [u8],
+    ghost labels_length: { length labels.now ≡ front.count * 10 },
+    ghost keys_length: { length keys.now ≡ front.count * front.m },
 }
 
-// Puts card i's label and offset at its place in the table.
-fn put_entry(out: &mut [u8], front: Front, labels: &[u8], i: u32)
-    requires { (length labels.now ≡ front.count * 10) × (i < front.count) × (7 + front.count * 14 ≤ length out.old) }
-    ensures { out.new ≡ placed out.old (7 + i * 14) (entry front labels.now i) }
-{
-    let at = 7 + of_cards(i, 14);
-    let offset = word(front.offset_of(i));
-    let labels = Labels {
-        bytes: labels,
-        each: 10,
-    };
-    put(out, at, labels.at(i));
-    put(out, at + 10, &offset);
-}
-
-// Puts the table of contents behind the first seven bytes.
-fn put_table(out: &mut [u8], front: Front, labels: &[u8])
-    requires { (length labels.now ≡ front.count * 10) × (7 + front.count * 14 ≤ length out.old) }
-    ensures { (take (7 + front.count * 14) out.new ≡ take 7 out.old ++ joined front.count (entry front labels.now))
-        × (length out.new ≡ length out.old) }
-{
-    for i in 0..front.count {
-        put_entry(out, front, labels, i);
+impl<'a> Cards<'a> {
+    // The cards of a call, or why it is refused, by its output's length too: the first that applies.
+    #[tactic(auto, using(refusal::proofs::Answers::chain), unfolding(crate::specs::Writer::write_refusal))]
+    fn new(front: Front, labels: &'a [u8], keys: &'a [u8], out: usize) -> Result<Cards<'a>, Refusal>
+        ensures refusal { number_of result ≡ write_refusal (fields_of front labels.now keys.now) out }
+        ensures fields { IfOk result (λ cards. fields_of cards.front cards.labels.now cards.keys.now ≡ fields_of front labels.now keys.now) }
+    {
+        check_lengths(front, labels.len(), keys.len(), out)?;
+        let table = Labels {
+            bytes: labels,
+            each: 10,
+        };
+        table.check(front.count)?;
+        require(all_below(front.q, keys), Refusal::Element)?;
+        Ok(Cards {
+            front,
+            labels,
+            keys,
+        })
     }
-}
 
-// The first seven bytes, the table and the keys, one behind the other.
-fn put_book<'a>(front: Front, labels: &'a [u8], keys: &'a [u8], out: &mut [u8])
-    requires { (length labels.now ≡ front.count * 10) × (length keys.now ≡ front.count * front.m) × (length out.old ≡ book_length front) }
-    ensures { out.new ≡ written (fields_of front labels.now keys.now) }
-{
-    let count = word(front.count as usize);
-    let sizes = [front.q, front.n, front.m];
-    put(out, 0, &count);
-    put(out, 4, &sizes);
-    put_table(out, front, labels);
-    put(out, front.offset_of(0), keys);
+    // Puts card i's label and offset at its place in the table.
+    fn put_entry(&self, out: &mut [u8], i: u32)
+        requires { (i < self.now.front.count) × (7 + self.now.front.count * 14 ≤ length out.old) }
+        ensures { out.new ≡ placed out.old (7 + i * 14) (entry self.now.front self.now.labels.now i) }
+    {
+        let at = 7 + of_cards(i, 14);
+        let offset = word(self.front.offset_of(i));
+        let labels = Labels {
+            bytes: self.labels,
+            each: 10,
+        };
+        put(out, at, labels.at(i));
+        put(out, at + 10, &offset);
+    }
+
+    // Puts the table of contents behind the first seven bytes.
+    fn put_table(&self, out: &mut [u8])
+        requires { 7 + self.now.front.count * 14 ≤ length out.old }
+        ensures { (take (7 + self.now.front.count * 14) out.new
+            ≡ take 7 out.old ++ joined self.now.front.count (entry self.now.front self.now.labels.now))
+            × (length out.new ≡ length out.old) }
+    {
+        for i in 0..self.front.count {
+            self.put_entry(out, i);
+        }
+    }
+
+    // The first seven bytes, the table and the keys, one behind the other.
+    fn put(&self, out: &mut [u8])
+        requires { length out.old ≡ book_length self.now.front }
+        ensures { out.new ≡ written (fields_of self.now.front self.now.labels.now self.now.keys.now) }
+    {
+        let count = word(self.front.count as usize);
+        let sizes = [self.front.q, self.front.n, self.front.m];
+        put(out, 0, &count);
+        put(out, 4, &sizes);
+        self.put_table(out);
+        put(out, self.front.offset_of(0), self.keys);
+    }
 }
 
 // Writes the book of a delivery: the labels and the keys of all its cards.
@@ -95,7 +114,6 @@ pub fn write<'a>(
         × (out.new ≡ kept (number_of result) out.old (written (fields_of (front_of count q n m) labels.now keys.now))) }
 {
     let front = Front { count, q, n, m };
-    check_call(front, labels, keys, out.len())?;
-    put_book(front, labels, keys, out);
+    Cards::new(front, labels, keys, out.len())?.put(out);
     Ok(())
 }

@@ -11,7 +11,7 @@ use Rattle.slices.proofs.Parts.{placed_next, placed_all, length-placed}
 use Rattle.book_form.specs.declared.layout.Front.{Front}
 use Rattle.book_form.specs.Book.{front_bytes, offset_of, book_length, entry, written}
 use Rattle.book_writer.specs.Writer.{fields_of}
-use Rattle.book_writer.proofs.put_book.Goals as goal
+use Rattle.book_writer.proofs.Cards.put.Goals as goal
 
 first_offset : (h : Front) → offset_of h 0 ≡ 7 + h.count * 14
 unfolding offset_of
@@ -45,7 +45,7 @@ put-requires-2 c = omega arith
 
 pub put_table-requires : goal.put_table-requires
 unfolding book_length offset_of
-put_table-requires c = (c.requires.0, omega arith)
+put_table-requires c = omega arith
 
 pub put-requires-3 : goal.put-requires-3
 unfolding book_length offset_of
@@ -60,7 +60,7 @@ returns c =
     let three = c.put_table in
     let four = c.put-3 in
     let place = c.offset_of.ensures.0 in
-    let keys_long = c.requires.1 in
-    let out-long = c.requires.2 in
-    assembled c.args.front c.args.labels.now c.args.keys.now count.result c.args.out.now one.new.out two.new.out three.new.out four.new.out _
-    (omega (arith, keys_long, out-long)) count.ensures.0 count.ensures.1 one.ensures two.ensures three.ensures.0 three.ensures.1 (place ∙ first_offset c.args.front) four.ensures
+    let keys_long = c.args.self.now.keys_length in
+    let out-long = c.requires in
+    assembled c.args.self.now.front c.args.self.now.labels.now c.args.self.now.keys.now count.result c.args.out.now one.new.out two.new.out three.new.out four.new.out _
+    (omega (arith, keys_long, out-long)) count.ensures.0 count.ensures.1 one.ensures two.ensures three.ensures.0 three.ensures.1 (place ∙ first_offset c.args.self.now.front) four.ensures

@@ -11,7 +11,7 @@ use Rattle.slices.proofs.Parts.{placed-append}
 use Rattle.book_form.specs.declared.layout.Front.{Front}
 use Rattle.book_form.specs.Book.{offset_of, label_of, entry}
 use Rattle.book_form.specs.Labels.{label_at}
-use Rattle.book_writer.proofs.put_entry.Goals as goal
+use Rattle.book_writer.proofs.Cards.put_entry.Goals as goal
 
 ten : (labels l : List ℕ) (count i : ℕ) → length labels ≡ count * 10 → i < count → l ≡ label_at 10 labels i → length l ≡ 10
 unfolding label_at
@@ -26,11 +26,11 @@ entry-put out labels s t h i place k here label offset is = ap₂ (λ (p : ℕ) 
 
 pub put-requires : goal.put-requires
 put-requires c =
-    let long = ten _ _ _ _ c.requires.0 c.requires.1 c.at.ensures in
+    let long = ten _ _ _ _ c.args.self.now.labels_length c.requires.0 c.at.ensures in
     omega arith
 
 pub returns : goal.returns
 returns c =
-    let long = ten _ _ _ _ c.requires.0 c.requires.1 c.at.ensures in
+    let long = ten _ _ _ _ c.args.self.now.labels_length c.requires.0 c.at.ensures in
     placed-append _ _ _ _ _ _ _ (omega (arith, c.of_cards-at.ensures.0)) (omega arith) c.put.ensures c.put-2.ensures ∙
-    entry-put _ _ _ _ c.args.front c.args.i _ _ (omega (arith, c.of_cards-at.ensures.0)) c.at.ensures c.word-offset.ensures.0 c.offset_of.ensures.0
+    entry-put _ _ _ _ c.args.self.now.front c.args.i _ _ (omega (arith, c.of_cards-at.ensures.0)) c.at.ensures c.word-offset.ensures.0 c.offset_of.ensures.0
