@@ -6,7 +6,7 @@ ghost use Rattle.book_form.specs.Book.{offset_of, book_length};
 pub fn of_cards(count: u32, each: u8) -> usize
     ensures { (result ≡ count * each) × (result ≤ 1095216660225) }
 {
-    count as usize * each as usize
+    count as usize * usize::from(each)
 }
 
 // The bytes of the table: a label and an offset a card.

@@ -77,7 +77,7 @@ fn append(t: Text, v: [u8; 96], n: u8) -> Text
     requires { Room (length (take n v)) t }
     ensures { Appended t (take n v) result }
 {
-    let count = clamped(n as usize);
+    let count = clamped(usize::from(n));
     Text {
         bytes: put(t.bytes, t.len, &v[..count]),
         len: t.len + count,

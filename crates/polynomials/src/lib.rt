@@ -53,9 +53,11 @@ fn products(system: &System, row: &[u8]) -> [u8; 96]
 {
     let mut out = [0; 96];
     let w = width(system.n());
+    let mut at = 3;
     for l in 0..usize::from(system.m()) {
-        let at = 3 + l * w;
-        out[l] = dot(system.q(), &system.bytes[at..at + w], row);
+        let next = at + w;
+        out[l] = dot(system.q(), &system.bytes[at..next], row);
+        at = next;
     }
     out
 }

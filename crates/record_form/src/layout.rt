@@ -45,7 +45,7 @@ impl Header {
     pub fn layout(self) -> Layout
         ensures { (result ≡ layout_of self) × (result.exchanges.offset + result.exchanges.length ≤ 1000000) }
     {
-        let m = self.m as usize;
+        let m = usize::from(self.m);
         let commitments = of_rounds(self.rounds, commitments_length(self.scheme));
         let exchanges = of_rounds(self.rounds, exchange_length(self.scheme, self.n, self.m));
         Layout {
