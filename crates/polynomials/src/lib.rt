@@ -47,6 +47,7 @@ fn monomials(
 }
 
 // Each polynomial's coefficients times the monomials.
+#[tactic(auto, using(crate::proofs::TimesRow::done_start, crate::proofs::TimesRow::fits, crate::proofs::TimesRow::small, crate::proofs::TimesRow::count, crate::proofs::TimesRow::few))]
 fn products(system: &System, row: &[u8]) -> [u8; 96]
     requires { length row.now ≡ 4752 }
     ensures { result ≡ times_row system.now.bytes.now row.now }
@@ -63,6 +64,7 @@ fn products(system: &System, row: &[u8]) -> [u8; 96]
 }
 
 // F(x).
+#[tactic(auto, using(crate::proofs::Evaluation::few_unknowns, crate::proofs::Evaluation::is_f))]
 pub fn f(system: &System, x: [u8; 96]) -> [u8; 96]
     ensures { result ≡ F system.now.bytes.now x }
 {
@@ -72,6 +74,7 @@ pub fn f(system: &System, x: [u8; 96]) -> [u8; 96]
 }
 
 // G(x, y).
+#[tactic(auto, using(crate::proofs::Evaluation::few_unknowns, crate::proofs::Evaluation::is_g))]
 pub fn g(system: &System, x: [u8; 96], y: [u8; 96]) -> [u8; 96]
     ensures { result ≡ G system.now.bytes.now x y }
 {
