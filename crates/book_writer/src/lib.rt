@@ -72,7 +72,7 @@ fn put_book<'a>(front: Front, labels: &'a [u8], keys: &'a [u8], out: &mut [u8])
     requires { (length labels.now ≡ front.count * 10) × (length keys.now ≡ front.count * front.m) × (length out.old ≡ book_length front) }
     ensures { out.new ≡ written (fields_of front labels.now keys.now) }
 {
-    let count = word(front.count as usize);
+    let count = front.count.to_le_bytes();
     let sizes = [front.q, front.n, front.m];
     put(out, 0, &count);
     put(out, 4, &sizes);
