@@ -17,6 +17,7 @@ pub struct Labels<'a> {
 
 impl<'a> Labels<'a> {
     // The label of card i.
+    #[tactic(auto, unfolding(crate::specs::Labels::label_at))]
     pub fn at(&self, i: u32) -> &'a [u8]
         ensures { result.now ≡ label_at self.now.each self.now.bytes.now i }
     {
@@ -24,6 +25,7 @@ impl<'a> Labels<'a> {
     }
 
     // The same where it is known to be whole. Three contracts ask so of i: an index's bound is no fact of the labels, which a type could hold.
+    #[tactic(auto, using(crate::proofs::LabelPlaces::ten_bytes), unfolding(crate::specs::Labels::label_at))]
     fn whole_at(&self, i: u32) -> &'a [u8]
         requires { i * self.now.each + 10 ≤ length self.now.bytes.now }
         ensures { result.now ≡ label_at self.now.each self.now.bytes.now i }
@@ -33,7 +35,7 @@ impl<'a> Labels<'a> {
     }
 
     // Whether the label of card i is above the one before.
-    #[tactic(auto, unfolding(crate::specs::Labels::is_above))]
+    #[tactic(auto, using(crate::proofs::LabelPlaces::before_it), unfolding(crate::specs::Labels::is_above))]
     fn is_above(&self, i: u32) -> bool
         requires { i * self.now.each + 10 ≤ length self.now.bytes.now }
         ensures { result ≡ is_above self.now.each self.now.bytes.now i }

@@ -2,11 +2,13 @@
 ghost use Rattle.std.specs.Prelude.{◌≡◌, ◌*◌, ◌≤◌};
 ghost use Rattle.book_form.specs.Book.{offset_of, book_length};
 
-// The bytes of so many cards, with `each` a card.
+// The bytes of so many cards, with `each` a card. From u32 to usize there is only a cast, and `try_from` with a branch that no run
+// takes; so too in the crates of books above.
+#[tactic(auto, using(crate::proofs::LabelPlaces::cards_fit))]
 pub fn of_cards(count: u32, each: u8) -> usize
     ensures { (result ≡ count * each) × (result ≤ 1095216660225) }
 {
-    count as usize * each as usize
+    count as usize * usize::from(each)
 }
 
 // The bytes of the table: a label and an offset a card.

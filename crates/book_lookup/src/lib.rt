@@ -16,6 +16,7 @@ use refusal::{Refusal, require};
 use slices::equal;
 
 // Which card has this label, counted from 0. The labels rise, so a half of the cards that are left is left out each time.
+// There are at most 2,000: `try_from` would have a branch that no run takes.
 fn place_of(book: &Book, label: &[u8]) -> Option<u32>
     ensures { counted result ≡ place_in (table_in book.now.bytes.now) (front_in book.now.bytes.now).count label.now }
 {

@@ -60,7 +60,7 @@ pub fn key_at(bytes: &[u8], i: u32) -> &[u8]
     ensures { result.now ≡ key_of (front_in bytes.now) (fields_in bytes.now).keys i }
 {
     let m = front_of(bytes).m;
-    part(keys_of(bytes), of_cards(i, m), m as usize)
+    part(keys_of(bytes), of_cards(i, m), usize::from(m))
 }
 
 // Refuses card i's offset.

@@ -90,7 +90,7 @@ impl<'a> Cards<'a> {
         requires { length out.old ≡ book_length self.now.front }
         ensures { out.new ≡ written (fields_of self.now.front self.now.labels.now self.now.keys.now) }
     {
-        let count = word(self.front.count as usize);
+        let count = self.front.count.to_le_bytes();
         let sizes = [self.front.q, self.front.n, self.front.m];
         put(out, 0, &count);
         put(out, 4, &sizes);

@@ -1,5 +1,5 @@
 // A file's parts, read one behind the other: slices of bytes in short form, a pattern that is repeated, then changed at single
-// places.
+// places. From u32 to usize there is only a cast, and `try_from` with a branch that no run takes.
 ghost use Rattle.std.specs.Prelude.{◌≡◌, ◌+◌, ◌<◌, ◌≤◌, length, take, drop, IfSome};
 ghost use Rattle.slices.specs.Slices.{number as number_of};
 ghost use Rattle.cases.specs.Piece.{IsPrefixLen, Placed};

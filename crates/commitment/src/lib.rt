@@ -35,6 +35,7 @@ pub fn empty() -> Text
 }
 
 // How many bytes stand before ρ.
+#[tactic(auto, unfolding(crate::specs::Commitment::prefix))]
 fn prefix_length(d: Domain) -> usize
     ensures { (result ≡ length (prefix d 0)) × (result ≤ prefix_most) }
 {
@@ -42,6 +43,7 @@ fn prefix_length(d: Domain) -> usize
 }
 
 // Where the vectors stand in a string: behind the prefix and ρ.
+#[tactic(auto, unfolding(crate::specs::Commitment::vectors_at))]
 pub fn vectors_at(d: Domain) -> usize
     ensures { (result ≡ vectors_at d) × (result ≤ longest) }
 {
@@ -49,6 +51,7 @@ pub fn vectors_at(d: Domain) -> usize
 }
 
 // The bytes with s in the place of those from `at` on.
+#[tactic(auto, unfolding(slices::specs::Slices::placed))]
 fn put(bytes: [u8; 322], at: usize, s: &[u8]) -> [u8; 322]
     requires { at + length s.now ≤ longest }
     ensures { result ≡ take at bytes ++ (s.now ++ drop (at + length s.now) bytes) }
@@ -77,7 +80,7 @@ fn append(t: Text, v: [u8; 96], n: u8) -> Text
     requires { Room (length (take n v)) t }
     ensures { Appended t (take n v) result }
 {
-    let count = clamped(n as usize);
+    let count = clamped(usize::from(n));
     Text {
         bytes: put(t.bytes, t.len, &v[..count]),
         len: t.len + count,

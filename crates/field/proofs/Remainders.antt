@@ -27,6 +27,11 @@ mod_digits t b p =
     ap₂ (λ (u v : ℕ). (u + v) % p) (mod-mul (t / b) (b % p) p ∙ mul-mod (t / b) b p) (mod-mod (t % b) p) ∙
     sym (add-mod (t / b * b) (t % b) p) ∙ ap (λ (k : ℕ). k % p) (ap (λ (k : ℕ). k + t % b) (mul_comm (t / b) b) ∙ div-add-mod t b)
 
+-- the same of a number of 32 bits, from its two halves; 65,536 itself has more than 16 bits
+pub two_halves : (t p : ℕ) → (t / 65536 % p * ((65535 % p + 1) % p) + t % 65536 % p) % p ≡ t % p
+two_halves t p =
+    ap (λ (u : ℕ). (t / 65536 % p * u + t % 65536 % p) % p) (mod-add-mod 65535 p 1) ∙ mod_digits t 65536 p
+
 -- ---- differences
 
 -- a + (p - b % p) + b is a and a multiple of p

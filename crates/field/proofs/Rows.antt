@@ -35,6 +35,11 @@ below_max q x y = go (ltb x q) (ltb y q) refl refl
     go true false e f = sym (le-ltb (max x y) q (omega (arith, ltb-false y q f)))
     go false b e f = sym (le-ltb (max x y) q (omega (arith, ltb-false x q e)))
 
+pub below_none : (q : ℕ) (s : List ℕ) → length s ≡ 0 → true ≡ all_below q s
+unfolding all_below
+below_none q [] h = refl
+below_none q (x ∷ s) h = absurd (omega arith)
+
 -- in a list that is not empty, all are below q where the largest is
 pub below_largest : (q : ℕ) (s : List ℕ) → 0 < length s → ltb (largest s) q ≡ all_below q s
 unfolding largest all_below

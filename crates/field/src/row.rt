@@ -12,6 +12,7 @@ fn largest_of(s: &[u8]) -> u8
 }
 
 // Whether every byte is below q.
+#[tactic(auto, using(crate::proofs::Rows::below_none, crate::proofs::Rows::below_largest))]
 pub fn all_below(q: u8, s: &[u8]) -> bool
     ensures { result ≡ all_below q s.now }
 {

@@ -16,6 +16,7 @@ pub fn clamped(n: usize) -> usize
 }
 
 // The vector of the bytes of s, of which 96 at most are taken.
+#[tactic(auto, using(crate::proofs::Vectors::copied_vector))]
 pub fn from_slice(s: &[u8]) -> [u8; 96]
     ensures { result ≡ vector (length s.now) (λ i. s.now ! i) }
 {
@@ -26,19 +27,21 @@ pub fn from_slice(s: &[u8]) -> [u8; 96]
 }
 
 // The vector of n elements that stands in s from `at` on.
+#[tactic(auto, using(crate::proofs::Vectors::vector_part), unfolding(crate::specs::Vector::slot_v))]
 pub fn slot(s: &[u8], at: usize, n: u8) -> [u8; 96]
     ensures { result ≡ slot_v n «at» s.now }
 {
-    from_slice(part(s, at, n as usize))
+    from_slice(part(s, at, usize::from(n)))
 }
 
 // The vector of what f gives of the two elements at each of its n places.
+#[tactic(auto, using(crate::proofs::Vectors::combined_step, crate::proofs::Vectors::combined_end))]
 fn each<F: Fn(u8, u8) -> u8>(n: u8, x: [u8; 96], y: [u8; 96], f: F) -> [u8; 96]
     requires { F.IsAlwaysCallable f }
     ensures { Combined (F.post f) n x y result }
 {
     let mut z = [0; 96];
-    for i in 0..clamped(n as usize) {
+    for i in 0..clamped(usize::from(n)) {
         z[i] = f(x[i], y[i]);
     }
     z

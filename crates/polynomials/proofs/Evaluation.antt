@@ -6,19 +6,19 @@ use native.Mathlib.Nat.{add-sub_cancel_left}
 use native.Mathlib.Omega.{arith}
 use lib.ListN.{replicate, get_or-replicate}
 use Rattle.slices.specs.Slices.{◌!◌}
-use Rattle.field.specs.Ops.{Ops}
+use Rattle.field.specs.Ops.{Ops, ops}
 use Rattle.field.specs.Field.{Ring}
 use Rattle.field.specs.Vector.{sum}
 use Rattle.field.proofs.Fields.{ring}
 use Rattle.field.proofs.Sums.{add_nought, mul_nought, sum_below, sum_cong, sum_split}
 use Rattle.field.proofs.Vectors.{vector_cong}
 use Rattle.system.specs.Polynomial.{pairs, polynomial}
-use Rattle.system.specs.System.{q_of, n_of, m_of, ops_of, width, triangle, quadratic, linear, F, G}
+use Rattle.system.specs.System.{q_of, n_of, m_of, ops_of, width, triangle, quadratic, linear, F, G, system_refusal}
 use Rattle.polynomials.specs.Monomials.{monomial, Monomials, times_row}
 use Rattle.polynomials.specs.Polar.{crossed, polar, expanded}
 use Rattle.polynomials.proofs.Forms.{pairs_cong}
 use Rattle.polynomials.proofs.Laws.{G-expanded}
-use Rattle.system.proofs.SystemLayout.{triangle_whole, width_is}
+use Rattle.system.proofs.SystemLayout.{accepted, triangle_whole, width_is}
 
 module _ (o : Ops) (k : Ring o) where
   open o use {size, add, mul}
@@ -81,3 +81,15 @@ module _ (b : List ℕ) (small : n_of b ≤ 96) where
       ap ((ops_of b).add _) (sum_cong (ops_of b) (ring (q_of b)) (n_of b) _ _ (λ i s. ap ((ops_of b).mul _) (zeros_at i s)) ∙ sum_nought (ops_of b) (ring (q_of b)) (n_of b) _) ∙
       add_nought (ops_of b) (ring (q_of b)) _ (sum_below (ops_of b) (ring (q_of b)) (n_of b) _)) ∙
       sym (G-expanded b small x y)
+
+-- the same for a system that is not refused, with its q and n as they were read
+pub few_unknowns : (b : List ℕ) → system_refusal b ≡ 0 → n_of b ≤ 96
+few_unknowns b good = (accepted b good).n_high
+
+pub is_f : (b : List ℕ) (q n : ℕ) (x row : List ℕ) → system_refusal b ≡ 0 → q ≡ q_of b → n ≡ n_of b →
+    Monomials (ops q) n x x (replicate 96 0) x row → times_row b row ≡ F b x
+is_f b q n x row good field unknowns m = evaluated b (few_unknowns b good) x row (rw (field, unknowns) at m)
+
+pub is_g : (b : List ℕ) (q n : ℕ) (x y row : List ℕ) → system_refusal b ≡ 0 → q ≡ q_of b → n ≡ n_of b →
+    Monomials (ops q) n x y y (replicate 96 0) row → times_row b row ≡ G b x y
+is_g b q n x y row good field unknowns m = polarised b (few_unknowns b good) x y row (rw (field, unknowns) at m)

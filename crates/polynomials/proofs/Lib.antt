@@ -2,4 +2,5 @@
 pub mod Evaluation
 pub mod Forms
 pub mod Laws
+pub mod TimesRow
 pub mod Triangle

@@ -47,20 +47,24 @@ fn monomials(
 }
 
 // Each polynomial's coefficients times the monomials.
+#[tactic(auto, using(crate::proofs::TimesRow::done_start, crate::proofs::TimesRow::fits, crate::proofs::TimesRow::small, crate::proofs::TimesRow::count, crate::proofs::TimesRow::few))]
 fn products(system: &System, row: &[u8]) -> [u8; 96]
     requires { length row.now ≡ 4752 }
     ensures { result ≡ times_row system.now.bytes.now row.now }
 {
     let mut out = [0; 96];
     let w = width(system.n());
+    let mut at = 3;
     for l in 0..usize::from(system.m()) {
-        let at = 3 + l * w;
-        out[l] = dot(system.q(), &system.bytes[at..at + w], row);
+        let next = at + w;
+        out[l] = dot(system.q(), &system.bytes[at..next], row);
+        at = next;
     }
     out
 }
 
 // F(x).
+#[tactic(auto, using(crate::proofs::Evaluation::few_unknowns, crate::proofs::Evaluation::is_f))]
 pub fn f(system: &System, x: [u8; 96]) -> [u8; 96]
     ensures { result ≡ F system.now.bytes.now x }
 {
@@ -70,6 +74,7 @@ pub fn f(system: &System, x: [u8; 96]) -> [u8; 96]
 }
 
 // G(x, y).
+#[tactic(auto, using(crate::proofs::Evaluation::few_unknowns, crate::proofs::Evaluation::is_g))]
 pub fn g(system: &System, x: [u8; 96], y: [u8; 96]) -> [u8; 96]
     ensures { result ≡ G system.now.bytes.now x y }
 {

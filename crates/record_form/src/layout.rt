@@ -45,7 +45,7 @@ impl Header {
     pub fn layout(self) -> Layout
         ensures { (result ≡ layout_of self) × (result.exchanges.offset + result.exchanges.length ≤ 1000000) }
     {
-        let m = self.m as usize;
+        let m = usize::from(self.m);
         let commitments = of_rounds(self.rounds, self.scheme.commitments_length());
         let exchanges = of_rounds(self.rounds, self.scheme.exchange_length(self.n, self.m));
         Layout {

@@ -42,6 +42,7 @@ pub enum Refusal {
 impl From<Refusal> for u8 {
     ghost from_gives = { λ refusal byte. byte ≡ number refusal };
 
+    // An enum's number is read by a cast alone.
     fn from(refusal: Refusal) -> u8 {
         refusal as u8
     }

@@ -25,6 +25,7 @@ fn total(sums: [u32; 16]) -> u32
 }
 
 // Adds the products of the pairs that are left to the sum of the others.
+#[tactic(auto, using(field::proofs::Modulus::byte_product, field::proofs::Rows::products_start, field::proofs::Rows::products_step))]
 fn add_rest<'a>(others: u32, a: &'a [u8], b: &'a [u8]) -> u32
     requires { (length a.now ≡ length b.now) × (others + 65025 * length a.now < 2 ^ 32) }
     ensures { result ≡ others + products a.now b.now (length a.now) }

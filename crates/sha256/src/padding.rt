@@ -11,7 +11,8 @@ pub fn block_count(n: usize) -> usize
     (n + 8) / 64 + 1
 }
 
-// Byte j of the length in bits of a message of n bytes, as 64 bits with the high byte first.
+// Byte j of the length in bits of a message of n bytes, as 64 bits with the high byte first. From usize to u64
+// there is only a cast.
 fn length_byte(n: usize, j: usize) -> u8
     requires { (n ≤ 65535) × (j < 8) }
     ensures { result ≡ byte_of 8 (8 * n) j }

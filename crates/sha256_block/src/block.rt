@@ -9,6 +9,7 @@ use crate::state::State;
 use crate::word::{choose, lower_sigma0, lower_sigma1, majority, upper_sigma0, upper_sigma1};
 
 // The word that bytes 4i to 4i + 3 of a block are, the high byte first.
+#[tactic(auto, unfolding(crate::specs::Bytes::word_at))]
 fn word_at(block: &[u8], i: usize) -> u32
     requires { 4 * i + 3 < length block.now }
     ensures { result ≡ word_at block.now i }
@@ -30,6 +31,7 @@ fn load(block: &[u8]) -> [u32; 64]
 }
 
 // Word t of the message schedule, of the words before it.
+#[tactic(auto, using(crate::proofs::Operations::sum_is), unfolding(crate::specs::Block::next_word))]
 fn next_word(w: &[u32; 64], t: usize) -> u32
     requires { (16 ≤ t) × (t < 64) }
     ensures { result ≡ next_word w.now t }
@@ -41,6 +43,7 @@ fn next_word(w: &[u32; 64], t: usize) -> u32
 }
 
 // The word T1 of a round, with its constant and its word of the message schedule.
+#[tactic(auto, using(crate::proofs::Operations::sum_is), unfolding(crate::specs::Block::T1))]
 fn first_sum(s: State, k: u32, w: u32) -> u32
     ensures { result ≡ T1 k w (variables s) }
 {
@@ -51,6 +54,7 @@ fn first_sum(s: State, k: u32, w: u32) -> u32
 }
 
 // The word T2 of a round.
+#[tactic(auto, using(crate::proofs::Operations::sum_is), unfolding(crate::specs::Block::T2))]
 fn second_sum(s: State) -> u32
     ensures { result ≡ T2 (variables s) }
 {
@@ -58,6 +62,7 @@ fn second_sum(s: State) -> u32
 }
 
 // One round, with its constant and its word of the message schedule.
+#[tactic(auto, using(crate::proofs::Operations::sum_is), unfolding(crate::specs::Block::round, crate::specs::Block::shifted))]
 fn round(s: State, k: u32, w: u32) -> State
     ensures { variables result ≡ round k w (variables s) }
 {
@@ -76,6 +81,7 @@ fn round(s: State, k: u32, w: u32) -> State
 }
 
 // The words of two states added, each to its like.
+#[tactic(auto, using(crate::proofs::Operations::sum_is), unfolding(crate::specs::Block::added))]
 fn add_states(s: State, t: State) -> State
     ensures { variables result ≡ added (variables s) (variables t) }
 {

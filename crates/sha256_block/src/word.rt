@@ -28,24 +28,28 @@ pub fn majority(x: u32, y: u32, z: u32) -> u32
 }
 
 // The four functions stay apart: each is its definition in the standard, of which one with const parameters would show no amount.
+#[tactic(auto, using(crate::proofs::Operations::upper_sigma0_is))]
 pub fn upper_sigma0(x: u32) -> u32
     ensures { result ≡ Σ0 x }
 {
     rotate_right(x, 2) ^ rotate_right(x, 13) ^ rotate_right(x, 22)
 }
 
+#[tactic(auto, using(crate::proofs::Operations::upper_sigma1_is))]
 pub fn upper_sigma1(x: u32) -> u32
     ensures { result ≡ Σ1 x }
 {
     rotate_right(x, 6) ^ rotate_right(x, 11) ^ rotate_right(x, 25)
 }
 
+#[tactic(auto, using(crate::proofs::Operations::lower_sigma0_is))]
 pub fn lower_sigma0(x: u32) -> u32
     ensures { result ≡ σ0 x }
 {
     rotate_right(x, 7) ^ rotate_right(x, 18) ^ (x >> 3)
 }
 
+#[tactic(auto, using(crate::proofs::Operations::lower_sigma1_is))]
 pub fn lower_sigma1(x: u32) -> u32
     ensures { result ≡ σ1 x }
 {

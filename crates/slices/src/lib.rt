@@ -47,6 +47,7 @@ pub fn part(s: &[u8], at: usize, count: usize) -> &[u8]
 }
 
 // Puts s in the place of the bytes from `at` on.
+#[tactic(auto, using(crate::proofs::Parts::put_whole), unfolding(crate::specs::Slices::placed))]
 pub fn put(out: &mut [u8], at: usize, s: &[u8])
     requires { at + length s.now ≤ length out.old }
     ensures { out.new ≡ placed out.old «at» s.now }
@@ -64,7 +65,7 @@ pub fn put_both<'a>(out: &mut [u8], a: &'a [u8], b: &'a [u8])
     put(out, a.len(), b);
 }
 
-// A number as four bytes, the lowest first.
+// A number as four bytes, the lowest first. The remainder fits 32 bits: `try_from` would have a branch that no run takes.
 pub fn word(k: usize) -> [u8; 4]
     ensures { (result ≡ word_of k) × (length result ≡ 4) }
 {

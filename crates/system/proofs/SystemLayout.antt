@@ -3,16 +3,17 @@ use Prim.Native.Nat.{ℕ, zero, suc, ◌+◌, ◌-◌, ◌*◌, ◌/◌, ◌≤�
 use mathlib.Core.Path.{◌≡◌, refl, sym, ap, ◌∙◌}
 use mathlib.Core.Bool.{Bool, true, ◌&&◌}
 use mathlib.Core.List.{List, [], ◌∷◌}
-use native.Mathlib.Nat.{mul-le-mul, le_refl, not-suc-le-zero, eq-or-lt_of_le, le_of_suc-le-suc}
+use native.Mathlib.Nat.{mul-le-mul, le_refl, le_of_eq, not-suc-le-zero, eq-or-lt_of_le, le_of_suc-le-suc}
 use mathlib.Core.Logic.{⊎_elim}
 use native.Mathlib.Omega.{arith}
 use lib.Dec.{T, leb, eqb, leb→le, le→leb}
-use lib.ListN.{length, drop, length-drop}
-use borrow.Author.Tests.{leb-true, eqb-true, le-leb, eq-eqb}
+use lib.ListN.{length, take, drop, length-drop}
+use lib.Seq.{take_all}
+use borrow.Author.Tests.{leb-true, eqb-true, le-leb, lt-leb, eq-eqb}
 use Rattle.slices.specs.Slices.{◌!◌}
 use Rattle.slices.proofs.Booleans.{and_left, and_right}
 use Rattle.refusal.specs.Refusal.{unless, ◌or_else◌}
-use Rattle.refusal.proofs.Refusals.{first_zero, later_zero, test_holds, unless_most, or_else_most}
+use Rattle.refusal.proofs.Refusals.{first_zero, later_zero, later_decides, test_holds, unless_holds, unless_most, or_else_most}
 use Rattle.field.specs.Ops.{is_field}
 use Rattle.field.specs.Vector.{all_below}
 use Rattle.field.proofs.Elements.{all_below_at, at_all_below}
@@ -26,6 +27,14 @@ product_bound n k h = mul-le-mul h (omega arith)
 pub width_bound : (n k : ℕ) → n ≤ k → width n ≤ width k
 unfolding width
 width_bound n k h = omega (arith, product_bound n k h)
+
+-- what is multiplied for a width, and for a length, where n and m are any bytes
+pub square_fits : (n : ℕ) → n ≤ 255 → n * (n + 1) ≤ 65280
+square_fits n h = product_bound n 255 h
+
+pub polynomials_fit : (n m : ℕ) → n ≤ 255 → m ≤ 255 → m * width n ≤ 8388225
+unfolding width
+polynomials_fit n m hn hm = mul-le-mul hm (width_bound n 255 hn)
 
 -- ---- the triangle of quadratic coefficients
 
@@ -59,6 +68,19 @@ pub refusal_by : (b : List ℕ) (front sizes whole elements : Bool) →
     (unless front 2 or_else unless sizes 1 or_else unless whole 2 or_else unless elements 3) ≡ system_refusal b
 unfolding system_refusal
 refusal_by b front sizes whole elements e f g h = rw (e, f, g, h)
+
+pub too_short : (b : List ℕ) → length b < 3 → 2 ≡ system_refusal b
+unfolding system_refusal unless ◌or_else◌
+too_short b h = simp (lt-leb 3 _ h)
+
+-- of three bytes and more; the coefficients are all that is left after three
+pub of_parts : (b : List ℕ) → 3 ≤ length b → system_refusal b ≡
+    (unless (are_sizes (q_of b) (n_of b) (m_of b)) 1 or_else
+    unless (eqb (length b) (system_length (n_of b) (m_of b))) 2 or_else
+    unless (all_below (q_of b) (take (length b - 3) (drop 3 b))) 3)
+unfolding system_refusal
+of_parts b h =
+    rw (take_all (length b - 3) (drop 3 b) (le_of_eq (length-drop 3 b))) (later_decides _ _ (unless_holds (leb 3 (length b)) 2 (le-leb 3 _ h)))
 
 -- ---- a system that is not refused
 
@@ -108,6 +130,13 @@ accepted b h =
       whole = eqb-true (length b) (system_length (n_of b) (m_of b)) (test_holds _ 2 tt (first_zero _ _ (later_zero _ _ (later_zero _ _ h))));
       elements = test_holds (all_below (q_of b) (drop 3 b)) 3 tt (later_zero _ _ (later_zero _ _ (later_zero _ _ h)));
     }
+
+pub three_bytes : (b : List ℕ) → system_refusal b ≡ 0 → 3 ≤ length b
+three_bytes b h = (accepted b h).front
+
+pub well_formed_against : (b : List ℕ) (q n m : ℕ) → 0 ≡ system_against b q n m → system_refusal b ≡ 0
+unfolding system_against
+well_formed_against b q n m h = first_zero _ _ (sym h)
 
 -- the system has this q, n and m
 pub has_sizes_lem : (b : List ℕ) (q n m : ℕ) → has_sizes b q n m ≡ true → (q_of b ≡ q) × (n_of b ≡ n) × (m_of b ≡ m)

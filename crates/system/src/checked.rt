@@ -24,6 +24,7 @@ impl<'a> System<'a> {
     }
 
     // The same of a system that is lent to a session of this q, n and m.
+    #[tactic(auto, using(crate::proofs::SystemLayout::well_formed_against))]
     pub fn of_sizes(bytes: &'a [u8], q: u8, n: u8, m: u8) -> Result<System<'a>, Refusal>
         ensures refusal { number_of result ≡ system_against bytes.now q n m }
         ensures bytes { IfOk result (λ system. system.bytes.now ≡ bytes.now) }
@@ -32,6 +33,7 @@ impl<'a> System<'a> {
         Ok(System { bytes })
     }
 
+    #[tactic(auto, using(crate::proofs::SystemLayout::three_bytes))]
     pub fn q(&self) -> u8
         ensures { result ≡ q_of self.now.bytes.now }
     {
@@ -39,6 +41,7 @@ impl<'a> System<'a> {
     }
 
     // How many unknowns.
+    #[tactic(auto, using(crate::proofs::SystemLayout::three_bytes))]
     pub fn n(&self) -> u8
         ensures { result ≡ n_of self.now.bytes.now }
     {
@@ -46,6 +49,7 @@ impl<'a> System<'a> {
     }
 
     // How many polynomials.
+    #[tactic(auto, using(crate::proofs::SystemLayout::three_bytes))]
     pub fn m(&self) -> u8
         ensures { result ≡ m_of self.now.bytes.now }
     {

@@ -8,17 +8,20 @@ use refusal::{Refusal, require};
 use slices::byte_at;
 
 // The bytes of one polynomial in n unknowns.
+#[tactic(auto, using(crate::proofs::SystemLayout::square_fits), unfolding(crate::specs::System::width))]
 pub fn width(n: u8) -> usize
     ensures { result ≡ width_of n }
 {
-    n as usize * (n as usize + 1) / 2 + n as usize
+    let n = usize::from(n);
+    n * (n + 1) / 2 + n
 }
 
 // The bytes of a system of m polynomials in n unknowns.
+#[tactic(auto, using(crate::proofs::SystemLayout::polynomials_fit), unfolding(crate::specs::System::system_length))]
 pub fn system_length(n: u8, m: u8) -> usize
     ensures { result ≡ system_length n m }
 {
-    3 + m as usize * width(n)
+    3 + usize::from(m) * width(n)
 }
 
 // Whether k is a number of unknowns or of polynomials.
@@ -38,6 +41,7 @@ pub fn are_sizes(q: u8, n: u8, m: u8) -> bool
 }
 
 // Refuses a system's bytes, but those that are well-formed.
+#[tactic(auto, using(refusal::proofs::Answers::chain, crate::proofs::SystemLayout::too_short, crate::proofs::SystemLayout::of_parts))]
 pub fn check(system: &[u8]) -> Result<(), Refusal>
     ensures { number_of result ≡ system_refusal system.now }
 {

@@ -26,7 +26,8 @@ pub put-requires : goal.put-requires
 put-requires c =
     let long : length c.args.v ≡ 96 = search rules in
     let k = c.clamped-count.result in
-    rw (part_length k c.args.n c.args.v long c.clamped-count.ensures) (omega (arith, part_size k c.args.n c.args.v long c.clamped-count.ensures))
+    let few : k ≡ min c.args.n 96 = c.clamped-count.ensures ∙ ap (λ (m : ℕ). min m 96) c.from.ensures in
+    rw (part_length k c.args.n c.args.v long few) (omega (arith, part_size k c.args.n c.args.v long few))
 
 pub returns : goal.returns
 returns c =
@@ -34,9 +35,10 @@ returns c =
     let n = c.args.n in
     let k = c.clamped-count.result in
     let long : length v ≡ 96 = search rules in
-    let part = part_length k n v long c.clamped-count.ensures in
-    let is = part_is k n v long c.clamped-count.ensures in
-    let size = part_size k n v long c.clamped-count.ensures in
+    let few : k ≡ min n 96 = c.clamped-count.ensures ∙ ap (λ (m : ℕ). min m 96) c.from.ensures in
+    let part = part_length k n v long few in
+    let is = part_is k n v long few in
+    let size = part_size k n v long few in
     record {
       holds = λ l room h.
           let e = h.is in

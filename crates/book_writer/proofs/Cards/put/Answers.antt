@@ -7,6 +7,7 @@ use native.Mathlib.Omega.{arith}
 use native.Mathlib.Nat.{zero-mul}
 use lib.ListN.{length, take}
 use Rattle.slices.specs.Slices.{joined, word, placed}
+use Rattle.slices.proofs.Words.{length-word}
 use Rattle.slices.proofs.Parts.{placed_next, placed_all, length-placed}
 use Rattle.book_form.specs.declared.layout.Front.{Front}
 use Rattle.book_form.specs.Book.{front_bytes, offset_of, book_length, entry, written}
@@ -36,8 +37,8 @@ assembled h labels keys count out one two three four place long is-count four_by
     ap (λ (s : List ℕ). s ++ joined h.count (entry h labels) ++ keys) (second ∙ ap (λ (s : List ℕ). s ++ sizes) is-count)
 
 pub put-requires : goal.put-requires
-unfolding book_length offset_of
-put-requires c = let long = c.word-count.ensures.1 in omega (arith, long)
+unfolding book_length offset_of word
+put-requires c = let long = ap length c.to_le_bytes-count.ensures ∙ length-word c.args.self.now.front.count in omega (arith, long)
 
 pub put-requires-2 : goal.put-requires-2
 unfolding book_length offset_of
@@ -52,9 +53,9 @@ unfolding book_length offset_of
 put-requires-3 c = omega arith
 
 pub returns : goal.returns
-unfolding book_length offset_of
+unfolding book_length offset_of word
 returns c =
-    let count = c.word-count in
+    let count = c.to_le_bytes-count in
     let one = c.put in
     let two = c.put-2 in
     let three = c.put_table in
@@ -63,4 +64,4 @@ returns c =
     let keys_long = c.args.self.now.keys_length in
     let out-long = c.requires in
     assembled c.args.self.now.front c.args.self.now.labels.now c.args.self.now.keys.now count.result c.args.out.now one.new.out two.new.out three.new.out four.new.out _
-    (omega (arith, keys_long, out-long)) count.ensures.0 count.ensures.1 one.ensures two.ensures three.ensures.0 three.ensures.1 (place ∙ first_offset c.args.self.now.front) four.ensures
+    (omega (arith, keys_long, out-long)) count.ensures (ap length count.ensures ∙ length-word c.args.self.now.front.count) one.ensures two.ensures three.ensures.0 three.ensures.1 (place ∙ first_offset c.args.self.now.front) four.ensures

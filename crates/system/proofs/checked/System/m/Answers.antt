@@ -1,8 +1,0 @@
--- A well-formed system has three bytes and more. Assumes nothing.
-use native.Mathlib.Omega.{arith}
-use Rattle.system.proofs.SystemLayout.{accepted}
-use Rattle.system.proofs.checked.System.m.Goals as goal
-
-pub bounds-self-2 : goal.bounds-self-2
-bounds-self-2 c =
-    let k = accepted _ c.args.self.now.well_formed in omega arith
