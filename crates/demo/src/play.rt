@@ -55,7 +55,8 @@ impl Ends {
         Ok(())
     }
 
-    // The exchange of a round, α and the challenge being asked in it behind what is lent.
+    // The exchange of a round, α and the challenge being asked in it behind what is lent. Three contracts ask for the room of the longest:
+    // as an array of so many bytes it would come from a conversion, with a branch that no run takes.
     fn exchange(&mut self, t: Terms, round: &[u8], exchange: &mut [u8]) -> Result<(), Refused>
         requires { 1341 ≤ length exchange.old }
     {
