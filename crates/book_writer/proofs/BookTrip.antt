@@ -1,5 +1,5 @@
 -- The writer takes exactly the fields of a well-formed book, the reader gives them back, and what the reader takes is written as it was. Assumes nothing.
-use Prim.Native.Nat.{ℕ, ◌*◌, ◌<◌}
+use Prim.Native.Nat.{ℕ, ◌*◌, ◌≤◌, ◌<◌}
 use mathlib.Core.Path.{◌≡◌, refl, sym, ap, ◌∙◌}
 use mathlib.Core.Logic.{◌↔◌}
 use mathlib.Core.List.{List}
@@ -22,7 +22,7 @@ use Rattle.book_form.proofs.Rising.{rising, none_refused}
 use Rattle.book_reader.specs.Reader.{book_refusal}
 use Rattle.book_reader.proofs.Readings.{reading_good}
 use Rattle.book_reader.proofs.WellFormed.{accepted, valid_fields, written_accepted}
-use Rattle.book_writer.specs.Writer.{lengths_refusal, write_refusal}
+use Rattle.book_writer.specs.Writer.{lengths_refusal, write_refusal, fields_of}
 
 -- ---- what the writer takes
 
@@ -34,6 +34,12 @@ same_labels labels = refl
 pub record Taken (f : Fields) (out : ℕ) : Type 0 where
   pub valid : Valid f
   pub exact : out ≡ book_length f.front
+
+-- where no length is refused the labels have ten bytes each
+pub ten_each : (labels keys out : ℕ) (h : Front) → 0 ≡ lengths_refusal h labels keys out → h.count * 10 ≤ labels
+unfolding lengths_refusal
+ten_each labels keys out h none =
+    let long = equal_holds labels (h.count * 10) 2 tt (first_zero _ _ (later_zero _ _ (sym none))) in omega (arith, long)
 
 pub taken : (f : Fields) (out : ℕ) → write_refusal f out ≡ 0 → Taken f out
 unfolding write_refusal lengths_refusal
@@ -61,6 +67,12 @@ taken f out none =
           };
       exact = equal_holds out (book_length h) 2 tt (later_zero _ _ after_labels);
     }
+
+-- where nothing is refused all lengths are right
+pub right_lengths : (h : Front) (labels keys : List ℕ) (out : ℕ) → 0 ≡ write_refusal (fields_of h labels keys) out →
+    (length labels ≡ h.count * 10) × (length keys ≡ h.count * h.m) × (out ≡ book_length h)
+right_lengths h labels keys out none =
+    let t = taken (fields_of h labels keys) out (sym none) in (t.valid.labels_length, t.valid.keys_length, t.exact)
 
 valid_taken : (f : Fields) → Valid f → write_refusal f (book_length f.front) ≡ 0
 unfolding write_refusal lengths_refusal

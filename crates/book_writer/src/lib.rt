@@ -28,7 +28,7 @@ fn check_lengths(front: Front, labels: usize, keys: usize, out: usize) -> Result
 }
 
 // Refuses a call, its output's length among its arguments: the first that applies.
-#[tactic(auto, using(refusal::proofs::Answers::chain), unfolding(crate::specs::Writer::write_refusal))]
+#[tactic(auto, using(refusal::proofs::Answers::chain, crate::proofs::BookTrip::ten_each), unfolding(crate::specs::Writer::write_refusal))]
 fn check_call<'a>(front: Front, labels: &'a [u8], keys: &'a [u8], out: usize) -> Result<(), Refusal>
     ensures { number_of result ≡ write_refusal (fields_of front labels.now keys.now) out }
 {
@@ -57,6 +57,7 @@ fn put_entry(out: &mut [u8], front: Front, labels: &[u8], i: u32)
 }
 
 // Puts the table of contents behind the first seven bytes.
+#[tactic(auto, using(crate::proofs::Table::table_start, crate::proofs::Table::table_step, crate::proofs::Table::table_end))]
 fn put_table(out: &mut [u8], front: Front, labels: &[u8])
     requires { (length labels.now ≡ front.count * 10) × (7 + front.count * 14 ≤ length out.old) }
     ensures { (take (7 + front.count * 14) out.new ≡ take 7 out.old ++ joined front.count (entry front labels.now))
@@ -81,7 +82,7 @@ fn put_book<'a>(front: Front, labels: &'a [u8], keys: &'a [u8], out: &mut [u8])
 }
 
 // Writes the book of a delivery: the labels and the keys of all its cards.
-#[tactic(auto, using(refusal::proofs::Answers::chain))]
+#[tactic(auto, using(refusal::proofs::Answers::chain, crate::proofs::BookTrip::right_lengths))]
 pub fn write<'a>(
     count: u32,
     q: u8,
