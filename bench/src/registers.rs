@@ -3,11 +3,13 @@
 use crate::table::Table;
 use std::cmp::Reverse;
 
-/// The functions of the archive that F and G are made of. The sums of `rows` are put inline in the first.
-const PARTS: [&str; 3] = [
+/// The functions of the archive that F and G are made of. The sums of `rows` are put inline in the first, and what forms the monomials
+/// in the next two but for the loop over a row, which is made for each of two closures.
+const PARTS: [&str; 4] = [
     "polynomials::products",
-    "polynomials::monomials",
-    "rows::combination::blend_rows",
+    "polynomials::f",
+    "polynomials::g",
+    "rows::combination::fill",
 ];
 
 const TOLD: &str = "\
@@ -60,15 +62,18 @@ pub fn described(code: &str) -> String {
     )
 }
 
-/// The instructions of a function.
+/// The instructions of a function, and of all that are made of it where it is generic.
 fn body(code: &str, name: &str) -> Vec<Instruction> {
-    let head = format!("<{name}>:");
-    let lines = code.lines().skip_while(|line| !line.ends_with(&head));
-    let body: Vec<Instruction> = lines
-        .skip(1)
-        .take_while(|line| !line.is_empty())
-        .filter_map(instruction)
-        .collect();
+    let (alone, generic) = (format!("<{name}>:"), format!("<{name}::<"));
+    let mut inside = false;
+    let mut body = Vec::new();
+    for line in code.lines() {
+        if line.ends_with(">:") {
+            inside = line.ends_with(&alone) || line.contains(&generic);
+        } else if inside {
+            body.extend(instruction(line));
+        }
+    }
     assert!(!body.is_empty(), "{name} is no function of the archive");
     body
 }

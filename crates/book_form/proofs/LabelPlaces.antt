@@ -1,15 +1,11 @@
 -- Where labels stand among others. Assumes nothing.
 use Prim.Native.Nat.{ℕ, ◌+◌, ◌-◌, ◌*◌, ◌≤◌}
-use mathlib.Core.Path.{◌≡◌}
-use native.Mathlib.Nat.{mul-le-mul, le_refl, add-sub_cancel_left}
+use native.Mathlib.Nat.{mul-le-mul, le_refl}
 use native.Mathlib.Omega.{arith}
 
 -- a count of 32 bits and a byte
 pub cards_fit : (count each : ℕ) → count ≤ 4294967295 → each ≤ 255 → count * each ≤ 1095216660225
 cards_fit count each h k = mul-le-mul h k
-
-pub ten_bytes : (place : ℕ) → place + 10 - place ≡ 10
-ten_bytes place = add-sub_cancel_left place 10
 
 -- the label before stands in the bytes too
 pub before_it : (i each n : ℕ) → i * each + 10 ≤ n → (i - 1) * each + 10 ≤ n

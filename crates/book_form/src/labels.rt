@@ -25,7 +25,7 @@ impl<'a> Labels<'a> {
     }
 
     // The same where it is known to be whole. Three contracts ask so of i: an index's bound is no fact of the labels, which a type could hold.
-    #[tactic(auto, using(crate::proofs::LabelPlaces::ten_bytes), unfolding(crate::specs::Labels::label_at))]
+    #[tactic(auto, using(slices::proofs::Parts::part_count), unfolding(crate::specs::Labels::label_at))]
     fn whole_at(&self, i: u32) -> &'a [u8]
         requires { i * self.now.each + 10 ≤ length self.now.bytes.now }
         ensures { result.now ≡ label_at self.now.each self.now.bytes.now i }

@@ -66,6 +66,10 @@ answered_some b label key place i taken here some is =
     let found = is ∙ ap (key_in b) index in
     (λ j. record { answer = Found; key = found j }) ∙ sym (looked_found b label (sym taken) (λ nowhere. absurd (omega (arith, at, nowhere))))
 
+-- the checked book has the bytes of the call
+pub place_there : (s b label : List ℕ) (place : ℕ) → s ≡ b → place ≡ place_in (table_in s) (front_in s).count label → place ≡ place_in (table_in b) (front_in b).count label
+place_there s b label place same here = here ∙ ap (λ (t : List ℕ). place_in (table_in t) (front_in t).count label) same
+
 -- ---- the claims
 
 -- which case an answer is

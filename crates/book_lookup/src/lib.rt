@@ -47,6 +47,7 @@ fn check_call<'a>(book: &'a [u8], label: &[u8]) -> Result<Book<'a>, Refusal>
 }
 
 // Looks a label up in a book: any bytes.
+#[tactic(auto, using(crate::proofs::Lookups::answered_refused, crate::proofs::Lookups::answered_none, crate::proofs::Lookups::place_there))]
 pub fn lookup<'a>(book: &'a [u8], label: &'a [u8]) -> Result<Option<[u8; 96]>, Refusal>
     ensures answer { answered result ≡ lookup_of book.now label.now }
     ensures refusal { number_of result ≡ lookup_refusal book.now label.now }

@@ -47,6 +47,7 @@ pub fn labels_of(bytes: &[u8]) -> Labels<'_>
 }
 
 // What stands behind the table: the keys.
+#[tactic(auto, using(slices::proofs::Parts::part_all), unfolding(book_form::specs::Book::front_in, book_form::specs::Book::fields_in))]
 pub fn keys_of(bytes: &[u8]) -> &[u8]
     ensures { result.now ≡ (fields_in bytes.now).keys }
 {
@@ -64,6 +65,7 @@ pub fn key_at(bytes: &[u8], i: u32) -> &[u8]
 }
 
 // Refuses card i's offset.
+#[tactic(auto, using(slices::proofs::Parts::part_count), unfolding(crate::specs::Reader::offset_refusal))]
 fn check_offset(table: &[u8], front: Front, i: u32) -> Result<(), Refusal>
     requires { i * 14 + 14 ≤ length table.now }
     ensures { number_of result ≡ offset_refusal front table.now i }

@@ -22,7 +22,7 @@ use Rattle.book_form.proofs.Rising.{rising, none_refused}
 use Rattle.book_reader.specs.Reader.{book_refusal}
 use Rattle.book_reader.proofs.Readings.{reading_good}
 use Rattle.book_reader.proofs.WellFormed.{accepted, valid_fields, written_accepted}
-use Rattle.book_writer.specs.Writer.{lengths_refusal, write_refusal}
+use Rattle.book_writer.specs.Writer.{lengths_refusal, write_refusal, fields_of}
 
 -- ---- what the writer takes
 
@@ -34,6 +34,13 @@ same_labels labels = refl
 pub record Taken (f : Fields) (out : ℕ) : Type 0 where
   pub valid : Valid f
   pub exact : out ≡ book_length f.front
+
+-- where no length is refused all are those of the count and of m
+pub lengths : (labels keys out : ℕ) (h : Front) → 0 ≡ lengths_refusal h labels keys out → (labels ≡ h.count * 10) × (keys ≡ h.count * h.m)
+unfolding lengths_refusal
+lengths labels keys out h none =
+    let behind = later_zero _ _ (sym none) in
+    (equal_holds labels (h.count * 10) 2 tt (first_zero _ _ behind), equal_holds keys (h.count * h.m) 2 tt (first_zero _ _ (later_zero _ _ behind)))
 
 pub taken : (f : Fields) (out : ℕ) → write_refusal f out ≡ 0 → Taken f out
 unfolding write_refusal lengths_refusal
@@ -61,6 +68,10 @@ taken f out none =
           };
       exact = equal_holds out (book_length h) 2 tt (later_zero _ _ after_labels);
     }
+
+-- the output of a call that is not refused has room for the book
+pub exact_room : (f : Fields) (h : Front) (labels keys : List ℕ) (out : ℕ) → 0 ≡ write_refusal f out → fields_of h labels keys ≡ f → out ≡ book_length h
+exact_room f h labels keys out none same = (taken f out (sym none)).exact ∙ ap (λ (g : Fields). book_length g.front) (sym same)
 
 valid_taken : (f : Fields) → Valid f → write_refusal f (book_length f.front) ≡ 0
 unfolding write_refusal lengths_refusal

@@ -39,7 +39,7 @@ struct Cards<'a> {
 
 impl<'a> Cards<'a> {
     // The cards of a call, or why it is refused, by its output's length too: the first that applies.
-    #[tactic(auto, using(refusal::proofs::Answers::chain), unfolding(crate::specs::Writer::write_refusal))]
+    #[tactic(auto, using(refusal::proofs::Answers::chain, crate::proofs::BookTrip::lengths), unfolding(crate::specs::Writer::write_refusal))]
     fn new(front: Front, labels: &'a [u8], keys: &'a [u8], out: usize) -> Result<Cards<'a>, Refusal>
         ensures refusal { number_of result ≡ write_refusal (fields_of front labels.now keys.now) out }
         ensures fields { IfOk result (λ cards. fields_of cards.front cards.labels.now cards.keys.now ≡ fields_of front labels.now keys.now) }
@@ -74,6 +74,7 @@ impl<'a> Cards<'a> {
     }
 
     // Puts the table of contents behind the first seven bytes.
+    #[tactic(auto, using(crate::proofs::Table::table_start, crate::proofs::Table::table_step, crate::proofs::Table::table_end))]
     fn put_table(&self, out: &mut [u8])
         requires { 7 + self.now.front.count * 14 ≤ length out.old }
         ensures { (take (7 + self.now.front.count * 14) out.new

@@ -21,6 +21,10 @@ length_part a s e h k = length-take-le (e - s) (drop s a) (simp length-drop (ome
 pub part_all : (l : List ℕ) (place : ℕ) → take (length l) (drop place l) ≡ drop place l
 part_all l place = take_all (length l) (drop place l) (rw (length-drop place l) (omega arith))
 
+-- `at..at + count` is a part of as many
+pub part_count : (place count : ℕ) → place + count - place ≡ count
+part_count place count = omega arith
+
 -- a part is no longer than asked for
 pub part_most : (l p : List ℕ) (place k : ℕ) → p ≡ take k (drop place l) → length p ≤ k
 part_most l p place k is = rw (ap length is, length-take k (drop place l)) (omega arith)

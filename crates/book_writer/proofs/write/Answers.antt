@@ -1,9 +1,6 @@
--- What is refused stays, else the book is written. Assumes nothing.
-use mathlib.Core.Path.{sym, ap, ◌∙◌}
-use Rattle.book_form.specs.Book.{Fields, book_length}
-use Rattle.book_writer.proofs.BookTrip.{taken}
+-- The output has room for the book. Assumes nothing.
+use Rattle.book_writer.proofs.BookTrip.{exact_room}
 use Rattle.book_writer.proofs.write.Goals as goal
 
 pub put-requires : goal.put-requires
-put-requires c =
-    (taken _ _ (sym c.in_ok-new.ensures.refusal)).exact ∙ ap (λ (f : Fields). book_length f.front) (sym c.in_ok-new.ensures.fields)
+put-requires c = exact_room _ _ _ _ _ c.in_ok-new.ensures.refusal c.in_ok-new.ensures.fields
