@@ -11,7 +11,7 @@ ghost use Rattle.auditing.specs.Audit.{clash_at, secret_in, secret_at, search_of
 
 use clash::{Pair, first_clash, opened_pair};
 use commitment::{Text, empty};
-use comparable::{Records, Rejection, check_comparable, first_rejection};
+use comparable::{Records, Rejection, check_comparable, check_rounds};
 use full_set::{answering, first_full};
 use openings::secret;
 use refusal::Refusal;
@@ -116,9 +116,9 @@ fn audit(scheme: Scheme, system: &[u8], a: &[u8], b: &[u8], c: &[u8], d: &[u8]) 
 {
     let records = Records { scheme, a, b, c, d };
     match check_comparable(system, &records) {
-        Ok(system) => match first_rejection(&system, &records) {
-            Some(Rejection { whose, round }) => refused(Refusal::Rejected, whose, round),
-            None => search(&system, &records),
+        Ok(system) => match check_rounds(&system, &records) {
+            Ok(()) => search(&system, &records),
+            Err(Rejection { whose, round }) => refused(Refusal::Rejected, whose, round),
         },
         Err(refusal) => refused(refusal, 0, 0),
     }

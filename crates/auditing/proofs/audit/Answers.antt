@@ -10,21 +10,21 @@ use Rattle.auditing.proofs.Answering.{answers_by}
 use Rattle.auditing.proofs.Outcomes.{audit_refused, audit_rejected, audit_searched}
 use Rattle.auditing.proofs.audit.Goals as goal
 
-pub returns-in-Some : goal.returns-in-Some
-returns-in-Some c =
+pub returns-in-Err-check_rounds : goal.returns-in-Err-check_rounds
+returns-in-Err-check_rounds c =
     let a = c.args in
     answers_by _ _ _ c.refused.ensures
     (audit_rejected _ _ _ _ _ _ _ _ c.in-Ok.ensures.refusal refl
-    (c.in-Some.ensures.is ∙ ap (λ (system : List ℕ). rejection_of a.scheme system a.a.now a.b.now a.c.now a.d.now) c.in-Ok.ensures.bytes)
-    (λ zeroed. omega (arith, zeroed, c.in-Some.ensures.whose)))
+    (c.in-Err-check_rounds.ensures.is ∙ ap (λ (system : List ℕ). rejection_of a.scheme system a.a.now a.b.now a.c.now a.d.now) c.in-Ok.ensures.bytes)
+    (λ zeroed. omega (arith, zeroed, c.in-Err-check_rounds.ensures.whose)))
 
-pub returns-in-None : goal.returns-in-None
-returns-in-None c =
+pub returns-in-Ok-check_rounds : goal.returns-in-Ok-check_rounds
+returns-in-Ok-check_rounds c =
     let a = c.args in
     answers_by _ _ _ c.search.ensures
     (ap (λ (system : List ℕ). search_of a.scheme system a.a.now a.b.now a.c.now a.d.now) c.in-Ok.ensures.bytes ∙
     audit_searched _ _ _ _ _ _ _ _ c.in-Ok.ensures.refusal refl
-    (c.in-None.ensures.is ∙ ap (λ (system : List ℕ). rejection_of a.scheme system a.a.now a.b.now a.c.now a.d.now) c.in-Ok.ensures.bytes) refl)
+    (c.in-Ok-check_rounds.ensures.is ∙ ap (λ (system : List ℕ). rejection_of a.scheme system a.a.now a.b.now a.c.now a.d.now) c.in-Ok.ensures.bytes) refl)
 
 pub returns-in-Err : goal.returns-in-Err
 returns-in-Err c =
