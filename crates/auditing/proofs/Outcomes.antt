@@ -1,8 +1,7 @@
 -- The outcome of an audit by its cases. Assumes nothing.
-use Prim.Native.Nat.{ℕ, ◌+◌, ◌-◌}
-use mathlib.Core.Path.{◌≡◌, refl, sym, ap, ◌∙◌}
+use Prim.Native.Nat.{ℕ, ◌-◌}
+use mathlib.Core.Path.{◌≡◌, refl, sym, ◌∙◌}
 use mathlib.Core.List.{List}
-use native.Mathlib.Omega.{arith}
 use borrow.Author.Tests.{ne_eqb}
 use Rattle.scheme.specs.declared.Scheme.{Scheme}
 use Rattle.scheme.specs.declared.Scheme.TheVariants.{ThreePass}
@@ -45,15 +44,6 @@ module _ (scheme : Scheme) (system a b c d : List ℕ) where
       first.whose ≡ 0 → search_of scheme system a b c d ≡ audit_of scheme system a b c d
   unfolding audit_of
   audit_searched number first is zeroed rejected none_rejected = simp (sym is ∙ zeroed, sym rejected, none_rejected)
-
-  -- by places counted from 0
-  pub clash_found : (r k : ℕ) → k + 1 ≡ first_clash scheme system a b c d r → clash_at scheme system a b c d r k ≡ finding_at scheme system a b c d r
-  clash_found r k is =
-      ap (clash_at scheme system a b c d r) (omega arith) ∙ finding_clash r (k + 1) is (λ zeroed. omega (arith, zeroed))
-
-  pub round_found : (r : ℕ) → r + 1 ≡ first_full scheme a b c d → finding_at scheme system a b c d r ≡ search_of scheme system a b c d
-  round_found r is =
-      ap (finding_at scheme system a b c d) (omega arith) ∙ search_found (r + 1) is (λ zeroed. omega (arith, zeroed))
 
 -- three passes have no fourth record: what stands in its place is not looked at
 pub no_fourth : (system a b c d e : List ℕ) → audit_of ThreePass system a b c d ≡ audit_of ThreePass system a b c e

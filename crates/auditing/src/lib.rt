@@ -11,7 +11,7 @@ ghost use Rattle.auditing.specs.Audit.{clash_at, secret_in, secret_at, search_of
 
 use clash::{Pair, first_clash, opened_pair};
 use commitment::{Text, empty};
-use comparable::{Records, Rejection, check_comparable, first_rejection};
+use comparable::{Records, Rejection, check_comparable, check_rounds};
 use full_set::{answering, first_full};
 use openings::secret;
 use refusal::Refusal;
@@ -38,6 +38,7 @@ pub struct Audited {
 }
 
 // A refusal, with the record and the round that it names.
+#[tactic(auto, unfolding(crate::specs::Outcome::answer_of, crate::specs::Outcome::outcome_of, crate::specs::Outcome::outcome_by, slices::specs::Slices::zeros))]
 fn refused(refusal: Refusal, whose: u8, round: u8) -> Audited
     ensures { Answers result (Outcome·refused (number refusal) whose round) }
 {
@@ -65,6 +66,7 @@ fn secret_in(system: &System, records: &Records, r: u8) -> [u8; 96]
 }
 
 // The secret as a finding.
+#[tactic(auto, unfolding(crate::specs::Outcome::answer_of, crate::specs::Outcome::outcome_of, crate::specs::Outcome::outcome_by, crate::specs::Audit::secret_at))]
 fn secret_at(system: &System, records: &Records, r: u8) -> Audited
     ensures { Answers result (secret_at records.now.scheme system.now.bytes.now records.now.a.now records.now.b.now records.now.c.now r) }
 {
@@ -98,6 +100,7 @@ fn clash_at(system: &System, records: &Records, r: u8, k: u8) -> Audited
 }
 
 // What a search over the rounds finds.
+#[tactic(auto, unfolding(crate::specs::Audit::search_of, crate::specs::Audit::finding_at))]
 fn search(system: &System, records: &Records) -> Audited
     ensures { Answers result (search_of records.now.scheme system.now.bytes.now records.now.a.now records.now.b.now records.now.c.now records.now.d.now) }
 {
@@ -111,14 +114,15 @@ fn search(system: &System, records: &Records) -> Audited
 }
 
 // The audit of either scheme; scheme 3 has no fourth record, and `d` is not looked at there.
+#[tactic(auto, using(crate::proofs::Answering::answers_by, crate::proofs::Outcomes::audit_refused, crate::proofs::Outcomes::audit_rejected, crate::proofs::Outcomes::audit_searched, refusal::proofs::Answers::refuses))]
 fn audit(scheme: Scheme, system: &[u8], a: &[u8], b: &[u8], c: &[u8], d: &[u8]) -> Audited
     ensures { Answers result (audit_of scheme system.now a.now b.now c.now d.now) }
 {
     let records = Records { scheme, a, b, c, d };
     match check_comparable(system, &records) {
-        Ok(system) => match first_rejection(&system, &records) {
-            Some(Rejection { whose, round }) => refused(Refusal::Rejected, whose, round),
-            None => search(&system, &records),
+        Ok(system) => match check_rounds(&system, &records) {
+            Ok(()) => search(&system, &records),
+            Err(Rejection { whose, round }) => refused(Refusal::Rejected, whose, round),
         },
         Err(refusal) => refused(refusal, 0, 0),
     }

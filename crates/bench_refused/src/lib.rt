@@ -33,13 +33,12 @@ fn card_in(phase: u8) -> Card
     ensures { result ≡ card_in phase }
 {
     let closed = closed_card();
-    let e1 = closed.e1;
     card_with(
         closed,
         card_phase(phase),
         closed.round,
         held_lent(closed),
-        e1,
+        closed.e1,
     )
 }
 
@@ -62,14 +61,12 @@ fn carrier_in(phase: u8) -> Carrier
     ensures { result ≡ carrier_in phase }
 {
     let closed = closed_carrier(Verdict::None, 0);
-    let sent = closed.commitments;
-    let turn = closed.turn;
     carrier_with(
         closed,
         carrier_phase(phase),
         closed.accepted,
-        sent,
-        turn,
+        closed.commitments,
+        closed.turn,
         closed.challenge,
     )
 }

@@ -22,9 +22,8 @@ fn commit_three(card: Card, system: &System, lent: &[u8], out: &mut [u8]) -> Car
     let l = read_lent(lent, n, m);
     let (s, r0, t0, e0) = (card.s, l.r0, l.t0, l.e0);
     let w = card_three(system, s, r0, t0, e0);
-    let e1 = w.e1;
     write_three_commitments(commitments_three(card_domain(card), n, m, w, l.rhos), out);
-    card_with(card, CardPhase::Reply, card.round, l, e1)
+    card_with(card, CardPhase::Reply, card.round, l, w.e1)
 }
 
 // Five passes: writes the commitments, and keeps what is lent.

@@ -1,5 +1,6 @@
 -- What an audit refuses before it looks for a full set: of the system, of each record, of records that differ, and of a round that is rejected.
-use Rattle.std.specs.Prelude.{ℕ, cond, not, List, eqb, take, Option, Some, None}
+use Rattle.std.specs.Prelude.{ℕ, cond, not, List, eqb, take, Option, Some, None, Result, Ok, Err}
+use Rattle.std.specs.Borrow.{Bor}
 use Rattle.slices.specs.Slices.{same}
 use Rattle.refusal.specs.Refusal.{unless, ◌or_else◌, first_where}
 use Rattle.system.specs.System.{system_refusal}
@@ -21,6 +22,11 @@ difference_refusal a b =
     unless (same (take 6 a) (take 6 b)) 7 or_else
     unless (same (fields_in a).key (fields_in b).key) 7 or_else
     unless (same (fields_in a).commitments (fields_in b).commitments) 7
+
+-- what is asked of a record, where there is one
+abbrev pub of_record : (List ℕ → ℕ) → Option (Bor (List ℕ)) → ℕ
+of_record asked None = 0
+of_record asked (Some b) = asked b.now
 
 -- of the fourth record: scheme 3 has none, and nothing is refused of it
 unfoldable pub of_fourth : Scheme → ℕ → ℕ
@@ -52,10 +58,14 @@ rejected_in whose round later = cond (eqb round 0) later (record { whose = whose
 abbrev pub no_rejection : Rejection
 no_rejection = record { whose = 0; round = 0 }
 
+-- the rejection of an answer, or what the later records have
+abbrev pub rejection_or : Rejection → Result Unit Rejection → Rejection
+rejection_or later (Ok _) = later
+rejection_or later (Err rejection) = rejection
+
 -- the rejection of an answer
-abbrev pub rejection_in : Option Rejection → Rejection
-rejection_in None = no_rejection
-rejection_in (Some rejection) = rejection
+abbrev pub rejection_in : Result Unit Rejection → Rejection
+rejection_in = rejection_or no_rejection
 
 -- the same among the last two records
 unfoldable pub later_rejection : Scheme → List ℕ → List ℕ → List ℕ → Rejection

@@ -4,10 +4,10 @@
 // Scheme 3 has no fourth record, and what stands in its place is not looked at there.
 #![tactic(auto)]
 
-ghost use Rattle.std.specs.Prelude.{◌≡◌, ◌<◌, IfOk, IfSome};
+ghost use Rattle.std.specs.Prelude.{ℕ, ◌≡◌, ◌<◌, List, IfOk, IfErr, IfSome};
 ghost use Rattle.refusal.specs.Refusal.{number_of, counted};
 ghost use Rattle.comparable.specs.Comparable.{audited_refusal, difference_refusal, of_fourth, comparable_refusal};
-ghost use Rattle.comparable.specs.Comparable.{rejected_round, later_rejection, rejection_of, rejection_in};
+ghost use Rattle.comparable.specs.Comparable.{of_record, rejected_round, rejected_in, rejection_of, rejection_or, rejection_in};
 
 use record::{body_of, header_of, read};
 use refusal::{Refusal, require};
@@ -26,11 +26,27 @@ pub struct Records<'a> {
     pub d: &'a [u8],
 }
 
-// Refuses one record.
+impl<'a> Records<'a> {
+    // The fourth record, which scheme 3 has not.
+    #[tactic(auto, unfolding(crate::specs::Comparable::of_fourth))]
+    fn fourth(&self) -> Option<&'a [u8]>
+        ensures { (asked : List ℕ → ℕ) → of_record asked result ≡ of_fourth self.now.scheme (asked self.now.d.now) }
+    {
+        match self.scheme {
+            Scheme::ThreePass => None,
+            Scheme::FivePass => Some(self.d),
+        }
+    }
+}
+
+// Refuses one record, where there is one.
 #[tactic(auto, using(refusal::proofs::Answers::chain, crate::proofs::Schemes::same_scheme), unfolding(crate::specs::Comparable::audited_refusal, record_form::specs::Record::layout_of))]
-fn check_audited(scheme: Scheme, bytes: &[u8]) -> Result<(), Refusal>
-    ensures { number_of result ≡ audited_refusal scheme bytes.now }
+fn check_audited(scheme: Scheme, bytes: Option<&[u8]>) -> Result<(), Refusal>
+    ensures { number_of result ≡ of_record (audited_refusal scheme) bytes.entry }
 {
+    let Some(bytes) = bytes else {
+        return Ok(());
+    };
     let reading = read(bytes);
     let Ok(layout) = reading else {
         return reading.map(|_| ());
@@ -38,11 +54,15 @@ fn check_audited(scheme: Scheme, bytes: &[u8]) -> Result<(), Refusal>
     require(layout.header.scheme == scheme, Refusal::Value)
 }
 
-// Refuses two records that differ in the header, the key or a commitment; it ends at the first of the three that differs.
+// Refuses a record, where there is one, that differs from the first in the header, the key or a commitment; it ends at the first
+// of the three that differs.
 #[tactic(auto, using(refusal::proofs::Answers::chain, slices::proofs::Sameness::pointwise_same), unfolding(crate::specs::Comparable::difference_refusal, record_form::specs::Record::fields_in))]
-fn check_alike(a: &[u8], b: &[u8]) -> Result<(), Refusal>
-    ensures { number_of result ≡ difference_refusal a.now b.now }
+fn check_alike(a: &[u8], b: Option<&[u8]>) -> Result<(), Refusal>
+    ensures { number_of result ≡ of_record (difference_refusal a.now) b.entry }
 {
+    let Some(b) = b else {
+        return Ok(());
+    };
     let of_a = header_of(a).layout();
     let of_b = header_of(b).layout();
     require(part(a, 0, 6) == part(b, 0, 6), Refusal::Mismatch)?;
@@ -56,28 +76,6 @@ fn check_alike(a: &[u8], b: &[u8]) -> Result<(), Refusal>
     )
 }
 
-// Of the fourth record, which scheme 3 has not.
-#[tactic(auto, unfolding(crate::specs::Comparable::of_fourth))]
-fn check_fourth_audited(scheme: Scheme, d: &[u8]) -> Result<(), Refusal>
-    ensures { number_of result ≡ of_fourth scheme (audited_refusal scheme d.now) }
-{
-    match scheme {
-        Scheme::ThreePass => Ok(()),
-        Scheme::FivePass => check_audited(scheme, d),
-    }
-}
-
-// Refuses a fourth record, which scheme 3 has not, that differs from the first.
-#[tactic(auto, unfolding(crate::specs::Comparable::of_fourth))]
-fn check_fourth_alike(scheme: Scheme, a: &[u8], d: &[u8]) -> Result<(), Refusal>
-    ensures { number_of result ≡ of_fourth scheme (difference_refusal a.now d.now) }
-{
-    match scheme {
-        Scheme::ThreePass => Ok(()),
-        Scheme::FivePass => check_alike(a, d),
-    }
-}
-
 // The checked system, or the refusal before any round is judged; it ends at the first.
 #[tactic(auto, using(refusal::proofs::Answers::chain), unfolding(crate::specs::Comparable::comparable_refusal))]
 pub fn check_comparable<'a>(system: &'a [u8], records: &Records) -> Result<System<'a>, Refusal>
@@ -86,14 +84,14 @@ pub fn check_comparable<'a>(system: &'a [u8], records: &Records) -> Result<Syste
     ensures bytes { IfOk result (λ checked. checked.bytes.now ≡ system.now) }
 {
     let checked = System::new(system)?;
-    check_audited(records.scheme, records.a)?;
-    check_audited(records.scheme, records.b)?;
-    check_audited(records.scheme, records.c)?;
-    check_fourth_audited(records.scheme, records.d)?;
+    check_audited(records.scheme, Some(records.a))?;
+    check_audited(records.scheme, Some(records.b))?;
+    check_audited(records.scheme, Some(records.c))?;
+    check_audited(records.scheme, records.fourth())?;
     check_fit(system, records.a)?;
-    check_alike(records.a, records.b)?;
-    check_alike(records.a, records.c)?;
-    check_fourth_alike(records.scheme, records.a, records.d)?;
+    check_alike(records.a, Some(records.b))?;
+    check_alike(records.a, Some(records.c))?;
+    check_alike(records.a, records.fourth())?;
     Ok(checked)
 }
 
@@ -110,63 +108,42 @@ fn rejected_round(system: &System, bytes: &[u8]) -> Option<u8>
     None
 }
 
-// The first record with a rejected round, and that round, both counted from 1.
+// The first record with a rejected round, and that round, both counted from 1. Numbers, as a finding gives them: an enum for
+// `whose`, with its conversion and what it means, would be longer than the clause `0 < rejection.whose` that it saves.
 #[derive(Clone, Copy)]
 pub struct Rejection {
     pub whose: u8,
     pub round: u8,
 }
 
-// The rejected round of the fourth record, which scheme 3 has not.
-#[tactic(auto, unfolding(crate::specs::Comparable::of_fourth))]
-fn fourth_rejected(scheme: Scheme, system: &System, d: &[u8]) -> Option<u8>
-    ensures found { counted result ≡ of_fourth scheme (rejected_round system.now.bytes.now d.now) }
-    ensures below { IfSome result (λ r. r < 255) }
+// Refuses a record, where there is one, with a rejected round.
+#[tactic(auto, using(crate::proofs::Rejections::rejections))]
+fn check_accepted(system: &System, whose: u8, bytes: Option<&[u8]>) -> Result<(), Rejection>
+    requires { 0 < whose }
+    ensures is { (later : Rejection) → rejected_in whose (of_record (rejected_round system.now.bytes.now) bytes.entry) later ≡ rejection_or later result }
+    ensures whose { IfErr result (λ rejection. 0 < rejection.whose) }
 {
-    match scheme {
-        Scheme::ThreePass => None,
-        Scheme::FivePass => rejected_round(system, d),
+    let Some(bytes) = bytes else {
+        return Ok(());
+    };
+    match rejected_round(system, bytes) {
+        Some(r) => Err(Rejection {
+            whose,
+            round: r + 1,
+        }),
+        None => Ok(()),
     }
 }
 
-// The same among the last two records.
-#[tactic(auto, using(crate::proofs::Rejections::rejections), unfolding(crate::specs::Comparable::later_rejection))]
-fn later_rejection(system: &System, records: &Records) -> Option<Rejection>
-    ensures is { rejection_in result ≡ later_rejection records.now.scheme system.now.bytes.now records.now.c.now records.now.d.now }
-    ensures whose { IfSome result (λ rejection. 0 < rejection.whose) }
-{
-    if let Some(r) = rejected_round(system, records.c) {
-        return Some(Rejection {
-            whose: 3,
-            round: r + 1,
-        });
-    }
-    if let Some(r) = fourth_rejected(records.scheme, system, records.d) {
-        return Some(Rejection {
-            whose: 4,
-            round: r + 1,
-        });
-    }
-    None
-}
-
-#[tactic(auto, using(crate::proofs::Rejections::rejections), unfolding(crate::specs::Comparable::rejection_of))]
-pub fn first_rejection(system: &System, records: &Records) -> Option<Rejection>
+// Refuses records of which one has a rejected round; it ends at the first.
+#[tactic(auto, using(crate::proofs::Rejections::rejections), unfolding(crate::specs::Comparable::rejection_of, crate::specs::Comparable::later_rejection))]
+pub fn check_rounds(system: &System, records: &Records) -> Result<(), Rejection>
     ensures is { rejection_in result ≡ rejection_of records.now.scheme system.now.bytes.now records.now.a.now records.now.b.now
         records.now.c.now records.now.d.now }
-    ensures whose { IfSome result (λ rejection. 0 < rejection.whose) }
+    ensures whose { IfErr result (λ rejection. 0 < rejection.whose) }
 {
-    if let Some(r) = rejected_round(system, records.a) {
-        return Some(Rejection {
-            whose: 1,
-            round: r + 1,
-        });
-    }
-    if let Some(r) = rejected_round(system, records.b) {
-        return Some(Rejection {
-            whose: 2,
-            round: r + 1,
-        });
-    }
-    later_rejection(system, records)
+    check_accepted(system, 1, Some(records.a))?;
+    check_accepted(system, 2, Some(records.b))?;
+    check_accepted(system, 3, Some(records.c))?;
+    check_accepted(system, 4, records.fourth())
 }

@@ -13,7 +13,7 @@ pub fn read_middle(s: &[u8], n: u8, m: u8) -> Middle
 {
     Middle {
         t1: slot(s, 1, n),
-        e1: slot(s, 1 + n as usize, m),
+        e1: slot(s, 1 + usize::from(n), m),
     }
 }
 
@@ -22,9 +22,9 @@ pub fn read_middle(s: &[u8], n: u8, m: u8) -> Middle
 pub fn read_reply_three(s: &[u8], n: u8, m: u8) -> ReplyThree
     ensures { result ≡ reply_three_in n m s.now }
 {
-    let after_x = n as usize;
-    let after_y = after_x + n as usize;
-    let after_z = after_y + m as usize;
+    let after_x = usize::from(n);
+    let after_y = after_x + usize::from(n);
+    let after_z = after_y + usize::from(m);
     ReplyThree {
         x: slot(s, 0, n),
         y: slot(s, after_x, n),
@@ -41,7 +41,7 @@ pub fn read_reply_five(s: &[u8], n: u8) -> ReplyFive
 {
     ReplyFive {
         x: slot(s, 0, n),
-        rho: bytes_at(s, n as usize),
+        rho: bytes_at(s, usize::from(n)),
     }
 }
 
@@ -54,6 +54,7 @@ pub struct Lent {
     pub rhos: Rhos,
 }
 
+// Casts: with `usize::from` the check gets no proof of the record within the record.
 #[tactic(auto, unfolding(crate::specs::Messages::lent_in, crate::specs::Messages::bytes_at))]
 pub fn read_lent(s: &[u8], n: u8, m: u8) -> Lent
     ensures { result ≡ lent_in n m s.now }

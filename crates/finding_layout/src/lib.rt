@@ -25,10 +25,9 @@ fn kind_bytes(f: Finding) -> [u8; 4]
 fn text_bytes(t: Text) -> [u8; 326]
     ensures { (result ≡ text_bytes t) × (length result ≡ 326) }
 {
-    let len = word(t.len);
-    let bytes = t.bytes;
+    let Text { len, bytes, .. } = t;
     let mut out = [0; 326];
-    put_both(&mut out, &len, &bytes);
+    put_both(&mut out, &word(len), &bytes);
     out
 }
 
@@ -37,15 +36,17 @@ fn text_bytes(t: Text) -> [u8; 326]
 pub fn finding_bytes(audited: Audited) -> [u8; 752]
     ensures { (result ≡ finding_bytes audited) × (length result ≡ 752) }
 {
-    let secret = audited.secret;
-    let kind = kind_bytes(audited.finding);
-    let first = text_bytes(audited.first);
-    let second = text_bytes(audited.second);
+    let Audited {
+        finding,
+        secret,
+        first,
+        second,
+    } = audited;
     let mut start = [0; 100];
     let mut strings = [0; 652];
     let mut out = [0; 752];
-    put_both(&mut start, &kind, &secret);
-    put_both(&mut strings, &first, &second);
+    put_both(&mut start, &kind_bytes(finding), &secret);
+    put_both(&mut strings, &text_bytes(first), &text_bytes(second));
     put_both(&mut out, &start, &strings);
     out
 }

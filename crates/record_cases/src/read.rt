@@ -1,6 +1,6 @@
 // Cases of the reader: its answer as 30 bytes, the header, then offset and length of each body.
 use cases::Case;
-use record_form::{Body, Layout};
+use record_form::{Body, Header, Layout};
 use slices::{put, word};
 
 pub fn read_case(mut case: Case, buffer: &mut [u8]) -> Option<bool> {
@@ -14,15 +14,14 @@ pub fn read_case(mut case: Case, buffer: &mut [u8]) -> Option<bool> {
 }
 
 fn layout_bytes(layout: Layout) -> [u8; 30] {
-    let header = layout.header;
-    let numbers = [
-        layout.edition,
-        u8::from(header.scheme),
-        header.q,
-        header.n,
-        header.m,
-        header.rounds,
-    ];
+    let Header {
+        scheme,
+        q,
+        n,
+        m,
+        rounds,
+    } = layout.header;
+    let numbers = [layout.edition, u8::from(scheme), q, n, m, rounds];
     let mut bytes = [0; 30];
     put(&mut bytes, 0, &numbers);
     put(&mut bytes, 6, &entry(layout.key));

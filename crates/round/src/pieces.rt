@@ -21,7 +21,7 @@ pub struct Rhos {
 }
 
 // The commitments of three passes, as the card forms them. Whoever takes commitments holds their bytes.
-#[derive(Clone, Copy)]
+#[derive(Clone, Copy, PartialEq, Eq)]
 pub struct CommitmentsThree {
     pub c0: [u8; 32],
     pub c1: [u8; 32],
@@ -29,14 +29,14 @@ pub struct CommitmentsThree {
 }
 
 // And of five.
-#[derive(Clone, Copy)]
+#[derive(Clone, Copy, PartialEq, Eq)]
 pub struct CommitmentsFive {
     pub c0: [u8; 32],
     pub c1: [u8; 32],
 }
 
 // A reply of three passes: two vectors of n elements and one of m, and the ρ of the two commitments that it opens.
-#[derive(Clone, Copy)]
+#[derive(Clone, Copy, PartialEq, Eq)]
 pub struct ReplyThree {
     pub x: [u8; 96],
     pub y: [u8; 96],
@@ -46,14 +46,14 @@ pub struct ReplyThree {
 }
 
 // The card's answer to α.
-#[derive(Clone, Copy)]
+#[derive(Clone, Copy, PartialEq, Eq)]
 pub struct Middle {
     pub t1: [u8; 96],
     pub e1: [u8; 96],
 }
 
 // A reply of five passes: a vector and the ρ of the commitment that it opens.
-#[derive(Clone, Copy)]
+#[derive(Clone, Copy, PartialEq, Eq)]
 pub struct ReplyFive {
     pub x: [u8; 96],
     pub rho: [u8; 32],

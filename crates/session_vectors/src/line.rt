@@ -25,7 +25,6 @@ pub fn end_line<R: Print>(rt: &R, card: &Card, carrier: &Carrier) {
 // n for the numbers of a closed session, s for the secret, r for what is held of the round.
 fn say_card<R: Print>(rt: &R, card: &Card) {
     let due = card_due(card.phase);
-    let round = card.round;
     let numbers = card.phase.is_closed()
         && has_numbers(card.scheme, [card.q, card.n, card.m, card.rounds]);
     let vectors = any(&card.r0) || any(&card.t0) || any(&card.e0) || any(&card.e1);
@@ -33,13 +32,12 @@ fn say_card<R: Print>(rt: &R, card: &Card) {
     let n = letter(numbers, "n");
     let s = letter(any(&card.s), "s");
     let r = letter(vectors || rhos, "r");
-    let _ = print!(rt; " {due}{round}{n}{s}{r}");
+    let _ = print!(rt; " {due}{}{n}{s}{r}", card.round);
 }
 
 // n for the numbers of a closed session, v for the key, m for the round's messages.
 fn say_carrier<R: Print>(rt: &R, carrier: &Carrier) {
     let due = carrier_due(carrier.phase);
-    let accepted = carrier.accepted;
     let numbers = carrier.phase.is_closed()
         && has_numbers(
             carrier.scheme,
@@ -49,7 +47,7 @@ fn say_carrier<R: Print>(rt: &R, carrier: &Carrier) {
     let n = letter(numbers, "n");
     let v = letter(any(&carrier.v), "v");
     let m = letter(messages, "m");
-    let _ = println!(rt; " {due}{accepted}{n}{v}{m}");
+    let _ = println!(rt; " {due}{}{n}{v}{m}", carrier.accepted);
 }
 
 // Is a number of a session another than a closed session's, which is of the first scheme?

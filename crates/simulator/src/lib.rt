@@ -35,9 +35,9 @@ fn check_call(
     let q = system.q();
     let n = system.n();
     let m = system.m();
-    let drawn = n as usize + Scheme::ThreePass.drawn_length(n, m);
+    let drawn = usize::from(n) + Scheme::ThreePass.drawn_length(n, m);
     let rhos = Scheme::ThreePass.commitments_length();
-    require(v.len() == m as usize, Refusal::Length)?;
+    require(v.len() == usize::from(m), Refusal::Length)?;
     require(lent.len() == drawn + rhos, Refusal::Length)?;
     require(commitments_len == rhos, Refusal::Length)?;
     require(
@@ -56,7 +56,7 @@ fn check_call(
 fn lent_behind(lent: &[u8], n: u8, m: u8) -> Lent
     ensures { result ≡ lent_behind n m lent.now }
 {
-    read_lent(part(lent, n as usize, lent.len()), n, m)
+    read_lent(part(lent, usize::from(n), lent.len()), n, m)
 }
 
 // The simulator's vectors, from s' and what is lent behind it.
