@@ -6,7 +6,7 @@
 // case.
 #![tactic(auto)]
 
-use audit_lines::{Lengths, five_text, three_text};
+use audit_lines::{File, five_text, three_text};
 use files::{count_words, load, print};
 use slices::{part, zeros};
 use std::rt::{Env, Files};
@@ -57,30 +57,33 @@ fn audited_files<R: Env + Files + Eprint>(
     let mut a = zeros::<RECORD>();
     let mut b = zeros::<RECORD>();
     let mut c = zeros::<RECORD>();
-    let lengths = Lengths {
-        system: load(rt, 1, MISSING, &mut system)?,
-        a: load(rt, 2, MISSING, &mut a)?,
-        b: load(rt, 3, MISSING, &mut b)?,
-        c: load(rt, 4, MISSING, &mut c)?,
-    };
+    let system = loaded(rt, 1, &mut system)?;
+    let a = loaded(rt, 2, &mut a)?;
+    let b = loaded(rt, 3, &mut b)?;
+    let c = loaded(rt, 4, &mut c)?;
     if words == WITH_THREE {
-        Some(three_text(&system, &a, &b, &c, lengths, text))
+        Some(three_text(system, a, b, c, text))
     } else {
-        with_fourth(rt, &system, &a, &b, &c, lengths, text)
+        with_fourth(rt, system, a, b, c, text)
     }
 }
 
 // Reads the fourth record and audits all four.
 fn with_fourth<R: Env + Files + Eprint>(
     rt: &R,
-    system: &[u8],
-    a: &[u8],
-    b: &[u8],
-    c: &[u8],
-    lengths: Lengths,
+    system: File,
+    a: File,
+    b: File,
+    c: File,
     text: &mut [u8; TEXT],
 ) -> Option<usize> {
     let mut d = zeros::<RECORD>();
-    let length = load(rt, 5, MISSING, &mut d)?;
-    Some(five_text(system, a, b, c, &d, lengths, length, text))
+    let d = loaded(rt, 5, &mut d)?;
+    Some(five_text(system, a, b, c, d, text))
+}
+
+// The file that argument i names, in a buffer.
+fn loaded<'a, R: Env + Files + Eprint>(rt: &R, i: usize, buffer: &'a mut [u8]) -> Option<File<'a>> {
+    let length = load(rt, i, MISSING, buffer)?;
+    Some(File { buffer, length })
 }

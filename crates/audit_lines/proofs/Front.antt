@@ -1,28 +1,15 @@
--- A text that stands at the front of its buffer, and what an audit's is. Assumes nothing.
+-- How long a part is, and the text of an audit by its finding. Assumes nothing.
 use Prim.Native.Nat.{ℕ, ◌≤◌}
-use mathlib.Core.Path.{◌≡◌, sym, ap, ◌∙◌}
+use mathlib.Core.Path.{◌≡◌, sym, ap}
 use mathlib.Core.List.{List}
 use native.Mathlib.Omega.{arith}
 use lib.ListN.{length, take, drop, length-take}
-use Rattle.slices.specs.Slices.{placed}
-use Rattle.text.proofs.Appending.{Appended}
 use Rattle.commitment.specs.Texts.{content}
 use Rattle.auditing.specs.declared.Finding.{Finding}
 use Rattle.auditing.specs.declared.Finding.TheVariants.{Secret, Clash, Refused}
 use Rattle.auditing.specs.declared.Audited.{Audited}
 use Rattle.auditing.specs.Outcome.{outcome_by, outcome_of}
 use Rattle.audit_lines.specs.AuditLines.{secret_word, hex_line, clash_lines, refusal_line, audit_text}
-
--- r is l with s at its front, and s is so long
-abbrev pub Front : List ℕ → List ℕ → ℕ → List ℕ → Type 0
-Front l r long s = (r ≡ placed l 0 s) × (long ≡ length s) × (long ≤ 2048)
-
-pub at_front : (l r s : List ℕ) (next : ℕ) → Appended l r 0 next s → next ≤ 2048 → Front l r next s
-at_front l r s next (text, long) room = (text, omega (arith, long), room)
-
--- the same text by another name
-pub front_by : (l r s t : List ℕ) (long : ℕ) → Front l r long s → s ≡ t → Front l r long t
-front_by l r s t long (text, size, room) e = (text ∙ ap (placed l 0) e, size ∙ ap (length {A = ℕ}) e, room)
 
 -- what there is of a part is no longer than the whole
 pub part_short : (l p : List ℕ) (k most : ℕ) → p ≡ take k (drop 0 l) → length l ≡ most → length p ≤ most

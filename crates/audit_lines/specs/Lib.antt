@@ -1,2 +1,3 @@
 -- What the contracts of the audit's text cite.
 pub mod AuditLines
+pub mod Files

@@ -4,7 +4,7 @@ use mathlib.Core.Path.{◌≡◌, ap, ap₂, ◌∙◌}
 use mathlib.Core.List.{List, ◌++◌}
 use lib.ListN.{length}
 use borrow.Author.Tests.{ne_eqb}
-use Rattle.slices.specs.Slices.{placed, joined}
+use Rattle.slices.specs.Slices.{joined}
 use Rattle.slices.proofs.Parts.{part_most}
 use Rattle.report_lines.specs.ReportLines.{refused_line}
 use Rattle.system.proofs.SystemLayout.{sizes}
@@ -32,13 +32,6 @@ short_keys b none = let h = front_in b in (sizes h.q h.n h.m (accepted b none).s
 
 -- ---- the text
 
--- r is l with s at its front, and s is so long
-abbrev pub FrontOf : List ℕ → List ℕ → ℕ → List ℕ → Type 0
-FrontOf l r long s = (r ≡ placed l 0 s) × (long ≡ length s)
-
-pub front_by : (l r s t : List ℕ) (long : ℕ) → FrontOf l r long s → s ≡ t → FrontOf l r long t
-front_by l r s t long (text, size) e = (text ∙ ap (placed l 0) e, size ∙ ap length e)
-
 pub refused_text : (b : List ℕ) (k : ℕ) → k ≡ book_refusal b → (k ≡ 0 → ⊥) → refused_line k ≡ book_text b
 unfolding book_text
 refused_text b k e some = simp (ne_eqb (book_refusal b) 0 (λ none. some (e ∙ none))) (ap refused_line e)
@@ -46,6 +39,11 @@ refused_text b k e some = simp (ne_eqb (book_refusal b) 0 (λ none. some (e ∙ 
 pub cards_text : (b : List ℕ) → book_refusal b ≡ 0 → sizes_line (front_in b) ++ joined (front_in b).count (card_of b) ≡ book_text b
 unfolding book_text
 cards_text b none = simp none
+
+pub all_lines : (b : List ℕ) (h : Front) (i : ℕ) → h ≡ front_in b → i ≡ h.count →
+    sizes_line h ++ joined i (card_of b) ≡ sizes_line (front_in b) ++ joined (front_in b).count (card_of b)
+all_lines b h i e all =
+    ap (λ (k : ℕ). sizes_line h ++ joined k (card_of b)) all ∙ ap (λ (g : Front). sizes_line g ++ joined g.count (card_of b)) e
 
 pub card_text : (b table label key : List ℕ) (i : ℕ) → table ≡ table_in b → label ≡ label_at 14 table i → key ≡ key_of (front_in b) (fields_in b).keys i →
     card_line label key ≡ card_of b i

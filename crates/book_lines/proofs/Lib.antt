@@ -1,6 +1,5 @@
 -- A worked line, and laws of a book's text as it grows.
 pub mod Examples
 pub mod Printed
-mod Grown
 mod CardLines
 mod Answers

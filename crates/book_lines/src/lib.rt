@@ -5,6 +5,7 @@
 
 ghost use Rattle.std.specs.Prelude.{◌≡◌, ◌++◌, ◌+◌, ◌*◌, ◌≤◌, ◌<◌, length};
 ghost use Rattle.slices.specs.Slices.{placed, joined};
+ghost use Rattle.text.specs.Writer.{Appends};
 ghost use Rattle.book_form.specs.Book.{front_in};
 ghost use Rattle.book_reader.specs.Reader.{book_refusal};
 ghost use Rattle.book_lookup.specs.Lookup.{lookup_of, answered};
@@ -19,64 +20,73 @@ use iccid::{append_label, label_of};
 use refusal::Refusal;
 use report_lines::refused_line;
 use slices::part;
-use text::{append, append_count, append_number, append_numbers};
+use text::Writer;
 
 // `8944100000000000013 0506`
-fn card_line<'a>(text: &mut [u8], at: usize, label: &'a [u8], key: &'a [u8]) -> usize
-    requires { at + 2 * length label.now + 2 * length key.now + 2 ≤ length text.old }
-    ensures { (text.new ≡ placed text.old «at» (card_line label.now key.now))
-        × (result ≡ at + length (card_line label.now key.now))
-        × (result ≤ at + 2 * length label.now + 2 * length key.now + 2) }
+#[tactic(auto, using(text::proofs::Appending::pieces), unfolding(crate::specs::BookLines::card_line, report_lines::specs::ReportLines::space_word, text::specs::Text::line_feed))]
+fn card_line<'a>(text: &mut Writer, label: &'a [u8], key: &'a [u8])
+    requires { text.old.written + 2 * length label.now + 2 * length key.now + 2 ≤ length text.old.buffer.now }
+    ensures puts { Appends text.old text.new (card_line label.now key.now) }
+    ensures most { text.new.written ≤ text.old.written + 2 * length label.now + 2 * length key.now + 2 }
 {
-    let next = append_label(text, at, label);
-    let next = append(text, next, b" ");
-    let next = append_hex(text, next, key);
-    append(text, next, b"\n")
+    append_label(text, label);
+    text.append(b" ");
+    append_hex(text, key);
+    text.append(b"\n");
 }
 
 // `q 7 n 2 m 2 count 3`
-fn sizes_line(text: &mut [u8], front: Front) -> usize
-    requires { 29 ≤ length text.old }
-    ensures { (text.new ≡ placed text.old 0 (sizes_line front)) × (result ≡ length (sizes_line front)) × (result ≤ 29) }
+#[tactic(auto, using(text::proofs::Appending::pieces), unfolding(crate::specs::BookLines::sizes_line, crate::specs::BookLines::q_word, crate::specs::BookLines::n_word, crate::specs::BookLines::m_word, crate::specs::BookLines::count_word, text::specs::Text::line_feed))]
+fn sizes_line(text: &mut Writer, front: Front)
+    requires { text.old.written + 29 ≤ length text.old.buffer.now }
+    ensures puts { Appends text.old text.new (sizes_line front) }
+    ensures most { text.new.written ≤ text.old.written + 29 }
 {
-    let next = append_numbers(text, 0, b"q ", front.q, b" n ", front.n);
-    let next = append_number(text, next, b" m ", front.m);
-    let next = append_count(text, next, b" count ", front.count);
-    append(text, next, b"\n")
+    text.append_numbers(b"q ", front.q, b" n ", front.n);
+    text.append_number(b" m ", front.m);
+    text.append_count(b" count ", front.count);
+    text.append(b"\n");
 }
 
 // Puts the line of card i.
-fn append_card(book: &[u8], i: u32, text: &mut [u8], at: usize) -> usize
-    requires { ((front_in book.now).m ≤ 96) × (at + 214 ≤ length text.old) }
-    ensures { (text.new ≡ placed text.old «at» (card_of book.now i))
-        × (result ≡ at + length (card_of book.now i)) × (result ≤ at + 214) }
+fn append_card(text: &mut Writer, book: &[u8], i: u32)
+    requires { ((front_in book.now).m ≤ 96) × (text.old.written + 214 ≤ length text.old.buffer.now) }
+    ensures puts { Appends text.old text.new (card_of book.now i) }
+    ensures most { text.new.written ≤ text.old.written + 214 }
 {
-    card_line(text, at, labels_of(book).at(i), key_at(book, i))
+    card_line(text, labels_of(book).at(i), key_at(book, i));
 }
 
 // The numbers of a book that is not refused, then a line a card.
-fn all_cards(book: &[u8], text: &mut [u8]) -> usize
-    requires { (book_refusal book.now ≡ 0) × (length text.old ≡ 428064) }
-    ensures { (text.new ≡ placed text.old 0
-        (sizes_line (front_in book.now) ++ joined (front_in book.now).count (card_of book.now)))
-        × (result ≡ length (sizes_line (front_in book.now) ++ joined (front_in book.now).count (card_of book.now))) }
+fn all_cards(text: &mut Writer, book: &[u8])
+    requires { (book_refusal book.now ≡ 0) × (text.old.written + 428064 ≤ length text.old.buffer.now) }
+    ensures { Appends text.old text.new (sizes_line (front_in book.now) ++ joined (front_in book.now).count (card_of book.now)) }
 {
     let front = front_of(book);
-    let mut at = sizes_line(text, front);
+    sizes_line(text, front);
     for card in 0..front.count {
-        at = append_card(book, card, text, at);
+        append_card(text, book, card);
     }
-    at
+}
+
+// Puts all cards of a book, or its refusal.
+fn append_book(text: &mut Writer, book: &[u8])
+    requires { text.old.written + 428064 ≤ length text.old.buffer.now }
+    ensures { Appends text.old text.new (book_text book.now) }
+{
+    match read(book) {
+        Ok(_) => all_cards(text, book),
+        Err(refusal) => refused_line(text, u8::from(refusal)),
+    }
 }
 
 // All cards of a book, or its refusal.
 pub fn book_text(book: &[u8], text: &mut [u8; 428064]) -> usize
     ensures { (text.new ≡ placed text.old 0 (book_text book.now)) × (result ≡ length (book_text book.now)) }
 {
-    match read(book) {
-        Ok(_) => all_cards(book, text),
-        Err(refusal) => refused_line(text, 0, u8::from(refusal)),
-    }
+    let mut writer = Writer::new(text);
+    append_book(&mut writer, book);
+    writer.written()
 }
 
 // Looks the label of an ICCID up.
@@ -90,12 +100,25 @@ fn looked_up<'a>(book: &'a [u8], iccid: &'a [u8]) -> Result<Option<[u8; 96]>, Re
 }
 
 // A key alone on its line.
-fn key_line(text: &mut [u8], key: &[u8]) -> usize
-    requires { 2 * length key.now + 1 ≤ length text.old }
-    ensures { (text.new ≡ placed text.old 0 (key_line key.now)) × (result ≡ length (key_line key.now)) }
+#[tactic(auto, using(text::proofs::Appending::pieces), unfolding(crate::specs::BookLines::key_line, text::specs::Text::line_feed))]
+fn key_line(text: &mut Writer, key: &[u8])
+    requires { text.old.written + 2 * length key.now + 1 ≤ length text.old.buffer.now }
+    ensures { Appends text.old text.new (key_line key.now) }
 {
-    let next = append_hex(text, 0, key);
-    append(text, next, b"\n")
+    append_hex(text, key);
+    text.append(b"\n");
+}
+
+// Puts the key of the card with an ICCID, of m bytes, or `absent`, or the refusal.
+fn append_lookup<'a>(text: &mut Writer, book: &'a [u8], iccid: &'a [u8])
+    requires { text.old.written + 193 ≤ length text.old.buffer.now }
+    ensures { Appends text.old text.new (lookup_text book.now iccid.now) }
+{
+    match looked_up(book, iccid) {
+        Ok(Some(key)) => key_line(text, part(&key, 0, usize::from(front_of(book).m))),
+        Ok(None) => text.append(b"absent\n"),
+        Err(refusal) => refused_line(text, u8::from(refusal)),
+    }
 }
 
 // The key of the card with an ICCID, of m bytes, or `absent`, or the refusal.
@@ -103,9 +126,7 @@ pub fn lookup_text<'a>(book: &'a [u8], iccid: &'a [u8], text: &mut [u8; 428064])
     ensures { (text.new ≡ placed text.old 0 (lookup_text book.now iccid.now))
         × (result ≡ length (lookup_text book.now iccid.now)) }
 {
-    match looked_up(book, iccid) {
-        Ok(Some(key)) => key_line(text, part(&key, 0, front_of(book).m as usize)),
-        Ok(None) => append(text, 0, b"absent\n"),
-        Err(refusal) => refused_line(text, 0, u8::from(refusal)),
-    }
+    let mut writer = Writer::new(text);
+    append_lookup(&mut writer, book, iccid);
+    writer.written()
 }

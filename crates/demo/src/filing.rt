@@ -10,6 +10,7 @@ use record_writer::write;
 use reporting::{report, text_buffer};
 use slices::{part, put, zeros};
 use std::rt::{Env, Files};
+use text::Writer;
 
 // Room for a system and any record.
 const BOTH: usize = 1065536;
@@ -78,7 +79,7 @@ fn say_record<R: Print>(rt: &R, bytes: &[u8]) {
 
 fn say_hex<R: Print>(rt: &R, digest: &[u8; 32]) {
     let mut text = [0u8; 64];
-    append_hex(&mut text, 0, digest);
+    append_hex(&mut Writer::new(&mut text), digest);
     print(rt, &text);
 }
 

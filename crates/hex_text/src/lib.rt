@@ -1,12 +1,11 @@
-// Bytes as hexadecimal digits in a lent text, put from a place on. As in `text`, each function answers the place behind
-// what it put, and whoever calls lends the room.
+// Bytes as hexadecimal digits, put behind what was written. Whoever calls lends the room.
 #![tactic(auto)]
 
 ghost use Rattle.std.specs.Prelude.{◌≡◌, ◌+◌, ◌*◌, ◌≤◌, ◌<◌, length};
-ghost use Rattle.slices.specs.Slices.{placed};
+ghost use Rattle.text.specs.Writer.{Appends};
 ghost use Rattle.hex_text.specs.Hex.{hex_digit, hex_byte, hex};
 
-use text::append;
+use text::Writer;
 
 // The ASCII code of a hexadecimal digit.
 #[tactic(auto, unfolding(crate::specs::Hex::hex_digit))]
@@ -21,24 +20,24 @@ fn hex_digit(k: u8) -> u8
 }
 
 // Puts a byte's two digits.
-fn append_byte(text: &mut [u8], at: usize, byte: u8) -> usize
-    requires { at + 2 ≤ length text.old }
-    ensures { (text.new ≡ placed text.old «at» (hex_byte byte)) × (result ≡ at + length (hex_byte byte)) × (result ≡ at + 2) }
+#[tactic(auto, unfolding(crate::specs::Hex::hex_byte))]
+fn append_byte(text: &mut Writer, byte: u8)
+    requires { text.old.written + 2 ≤ length text.old.buffer.now }
+    ensures puts { Appends text.old text.new (hex_byte byte) }
+    ensures size { text.new.written ≡ text.old.written + 2 }
 {
     let high = hex_digit(byte / 16);
     let low = hex_digit(byte % 16);
-    append(text, at, &[high, low])
+    text.append(&[high, low]);
 }
 
 // Puts two digits for each byte.
-pub fn append_hex(text: &mut [u8], at: usize, s: &[u8]) -> usize
-    requires { at + 2 * length s.now ≤ length text.old }
-    ensures { (text.new ≡ placed text.old «at» (hex s.now)) × (result ≡ at + length (hex s.now))
-        × (result ≡ at + 2 * length s.now) }
+pub fn append_hex(text: &mut Writer, s: &[u8])
+    requires { text.old.written + 2 * length s.now ≤ length text.old.buffer.now }
+    ensures puts { Appends text.old text.new (hex s.now) }
+    ensures size { text.new.written ≡ text.old.written + 2 * length s.now }
 {
-    let mut next = at;
     for &byte in s {
-        next = append_byte(text, next, byte);
+        append_byte(text, byte);
     }
-    next
 }

@@ -2,54 +2,56 @@
 #![tactic(auto)]
 
 ghost use Rattle.std.specs.Prelude.{◌≡◌, unwrap_or, [], ◌++◌, ◌+◌, ◌*◌, ◌/◌, ◌%◌, ◌≤◌, ◌<◌, length};
-ghost use Rattle.slices.specs.Slices.{tabulate, placed};
+ghost use Rattle.slices.specs.Slices.{tabulate};
+ghost use Rattle.text.specs.Writer.{Appends};
 ghost use Rattle.iccid.specs.Iccid.{half_digit, label_digits, half_of, character_at, byte_from, label_from};
 
-use text::append;
+use text::Writer;
 
 // Puts a half's digit, nothing for F.
-fn append_half(text: &mut [u8], at: usize, half: u8) -> usize
-    requires { (half < 16) × (at + 1 ≤ length text.old) }
-    ensures { (text.new ≡ placed text.old «at» (half_digit half)) × (result ≡ at + length (half_digit half)) × (result ≤ at + 1) }
+#[tactic(auto, using(text::proofs::Appending::nothing_put), unfolding(crate::specs::Iccid::half_digit))]
+fn append_half(text: &mut Writer, half: u8)
+    requires { (half < 16) × (text.old.written + 1 ≤ length text.old.buffer.now) }
+    ensures puts { Appends text.old text.new (half_digit half) }
+    ensures most { text.new.written ≤ text.old.written + 1 }
 {
-    if half == 0xF {
-        return at;
+    if half != 0xF {
+        text.append(&[b'0' + half]);
     }
-    append(text, at, &[b'0' + half])
 }
 
 // Puts the digits of a byte's halves, the low one first.
-fn append_halves(text: &mut [u8], at: usize, byte: u8) -> usize
-    requires { at + 2 ≤ length text.old }
-    ensures { (text.new ≡ placed text.old «at» (half_digit (byte % 16) ++ half_digit (byte / 16)))
-        × (result ≡ at + length (half_digit (byte % 16) ++ half_digit (byte / 16))) × (result ≤ at + 2) }
+#[tactic(auto, using(text::proofs::Appending::pieces))]
+fn append_halves(text: &mut Writer, byte: u8)
+    requires { text.old.written + 2 ≤ length text.old.buffer.now }
+    ensures puts { Appends text.old text.new (half_digit (byte % 16) ++ half_digit (byte / 16)) }
+    ensures most { text.new.written ≤ text.old.written + 2 }
 {
-    let next = append_half(text, at, byte % 16);
-    append_half(text, next, byte / 16)
+    append_half(text, byte % 16);
+    append_half(text, byte / 16);
 }
 
 // Puts the digits of a label.
-pub fn append_label(text: &mut [u8], at: usize, label: &[u8]) -> usize
-    requires { at + 2 * length label.now ≤ length text.old }
-    ensures { (text.new ≡ placed text.old «at» (label_digits label.now))
-        × (result ≡ at + length (label_digits label.now)) × (result ≤ at + 2 * length label.now) }
+pub fn append_label(text: &mut Writer, label: &[u8])
+    requires { text.old.written + 2 * length label.now ≤ length text.old.buffer.now }
+    ensures puts { Appends text.old text.new (label_digits label.now) }
+    ensures most { text.new.written ≤ text.old.written + 2 * length label.now }
 {
-    let mut next = at;
     for &byte in label {
-        next = append_halves(text, next, byte);
+        append_halves(text, byte);
     }
-    next
 }
 
-// The half that a character stands for; 10, which is wrong in every place, for none.
+// The half that a character stands for.
 #[tactic(auto, unfolding(crate::specs::Iccid::half_of))]
-fn half_of(character: u8) -> u8
-    ensures { (result ≡ half_of character) × (result < 16) }
+fn half_of(character: u8) -> Option<u8>
+    ensures half { unwrap_or result 10 ≡ half_of character }
+    ensures small { unwrap_or result 10 < 16 }
 {
     match character {
-        b'F' => 0xF,
-        b'0'..=b'9' => character - b'0',
-        _ => 10,
+        b'F' => Some(0xF),
+        b'0'..=b'9' => Some(character - b'0'),
+        _ => None,
     }
 }
 
@@ -61,17 +63,20 @@ fn character_at(iccid: &[u8], i: usize) -> u8
     iccid.get(i).copied().unwrap_or(b'F')
 }
 
-// Byte i of the label that the characters stand for.
+// Byte i of the label that the characters stand for. A character that is no half counts as 10, which is wrong in every place, so
+// that the label is refused.
+#[tactic(auto, unfolding(crate::specs::Iccid::byte_from))]
 fn byte_from(iccid: &[u8], i: usize) -> u8
     requires { i < 10 }
     ensures { result ≡ byte_from iccid.now i }
 {
-    let low = half_of(character_at(iccid, 2 * i));
-    let high = half_of(character_at(iccid, 2 * i + 1));
+    let low = half_of(character_at(iccid, 2 * i)).unwrap_or(10);
+    let high = half_of(character_at(iccid, 2 * i + 1)).unwrap_or(10);
     low + 16 * high
 }
 
 // The ten bytes that the characters stand for.
+#[tactic(auto, using(slices::proofs::Tabulate::tabulate_of))]
 fn bytes_from(iccid: &[u8]) -> [u8; 10]
     ensures { result ≡ tabulate 10 (byte_from iccid.now) }
 {

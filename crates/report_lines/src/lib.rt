@@ -1,67 +1,71 @@
-// The lines of the report as bytes in a lent text, each put from a place on. As in `text`, each function answers the place behind
-// what it put.
+// The lines of the report, each put behind what was written.
 //
 // Nothing here refuses: whoever calls lends the room.
 #![tactic(auto)]
 
 ghost use Rattle.std.specs.Prelude.{◌≡◌, ◌++◌, ◌+◌, ◌≤◌, length};
-ghost use Rattle.slices.specs.Slices.{placed};
+ghost use Rattle.text.specs.Writer.{Appends};
 ghost use Rattle.report_lines.specs.ReportLines.{verdict_word, round_line, verdict_line, totals_line, refused_line};
 
-use text::{append, append_number, append_numbers};
+use text::Writer;
 
 // Puts a word, and `accept` or `reject`.
-fn append_verdict(text: &mut [u8], at: usize, word: &[u8], accepted: bool) -> usize
-    requires { at + length word.now + 6 ≤ length text.old }
-    ensures { (text.new ≡ placed text.old «at» (word.now ++ verdict_word accepted))
-        × (result ≡ at + length (word.now ++ verdict_word accepted)) × (result ≤ at + length word.now + 6) }
+#[tactic(auto, using(text::proofs::Appending::pieces), unfolding(crate::specs::ReportLines::verdict_word, crate::specs::ReportLines::accept_word, crate::specs::ReportLines::reject_word))]
+fn append_verdict(text: &mut Writer, word: &[u8], accepted: bool)
+    requires { text.old.written + length word.now + 6 ≤ length text.old.buffer.now }
+    ensures puts { Appends text.old text.new (word.now ++ verdict_word accepted) }
+    ensures most { text.new.written ≤ text.old.written + length word.now + 6 }
 {
-    let next = append(text, at, word);
+    text.append(word);
     if accepted {
-        append(text, next, b"accept")
+        text.append(b"accept");
     } else {
-        append(text, next, b"reject")
+        text.append(b"reject");
     }
 }
 
 // `round 1 challenge 2 accept`
-pub fn round_line(text: &mut [u8], at: usize, round: u8, challenge: u8, accepted: bool) -> usize
-    requires { at + 31 ≤ length text.old }
-    ensures { (text.new ≡ placed text.old «at» (round_line round challenge accepted))
-        × (result ≡ at + length (round_line round challenge accepted)) × (result ≤ at + 31) }
+#[tactic(auto, using(text::proofs::Appending::pieces), unfolding(crate::specs::ReportLines::round_line, crate::specs::ReportLines::round_word, crate::specs::ReportLines::challenge_word, crate::specs::ReportLines::space_word, text::specs::Text::line_feed))]
+pub fn round_line(text: &mut Writer, round: u8, challenge: u8, accepted: bool)
+    requires { text.old.written + 31 ≤ length text.old.buffer.now }
+    ensures puts { Appends text.old text.new (round_line round challenge accepted) }
+    ensures most { text.new.written ≤ text.old.written + 31 }
 {
-    let next = append_numbers(text, at, b"round ", round, b" challenge ", challenge);
-    let next = append_verdict(text, next, b" ", accepted);
-    append(text, next, b"\n")
+    text.append_numbers(b"round ", round, b" challenge ", challenge);
+    append_verdict(text, b" ", accepted);
+    text.append(b"\n");
 }
 
 // `verdict accept 1 of 1`
-pub fn verdict_line(text: &mut [u8], at: usize, accepted: u8, rounds: u8) -> usize
-    requires { at + 32 ≤ length text.old }
-    ensures { (text.new ≡ placed text.old «at» (verdict_line accepted rounds)) × (result ≡ at + length (verdict_line accepted rounds))
-        × (result ≤ at + 32) }
+pub fn verdict_line(text: &mut Writer, accepted: u8, rounds: u8)
+    requires { text.old.written + 32 ≤ length text.old.buffer.now }
+    ensures puts { Appends text.old text.new (verdict_line accepted rounds) }
+    ensures most { text.new.written ≤ text.old.written + 32 }
 {
-    let next = append_verdict(text, at, b"verdict ", accepted == rounds);
-    let next = append_numbers(text, next, b" ", accepted, b" of ", rounds);
-    append(text, next, b"\n")
+    append_verdict(text, b"verdict ", accepted == rounds);
+    text.append_numbers(b" ", accepted, b" of ", rounds);
+    text.append(b"\n");
 }
 
 // `rounds 1 accepted 0 rejected`
-pub fn totals_line(text: &mut [u8], at: usize, accepted: u8, rejected: u8) -> usize
-    requires { at + 33 ≤ length text.old }
-    ensures { (text.new ≡ placed text.old «at» (totals_line accepted rejected)) × (result ≡ at + length (totals_line accepted rejected))
-        × (result ≤ at + 33) }
+#[tactic(auto, using(text::proofs::Appending::pieces), unfolding(crate::specs::ReportLines::totals_line, crate::specs::ReportLines::rounds_word, crate::specs::ReportLines::accepted_word, crate::specs::ReportLines::rejected_word, text::specs::Text::line_feed))]
+pub fn totals_line(text: &mut Writer, accepted: u8, rejected: u8)
+    requires { text.old.written + 33 ≤ length text.old.buffer.now }
+    ensures puts { Appends text.old text.new (totals_line accepted rejected) }
+    ensures most { text.new.written ≤ text.old.written + 33 }
 {
-    let next = append_numbers(text, at, b"rounds ", accepted, b" accepted ", rejected);
-    let next = append(text, next, b" rejected");
-    append(text, next, b"\n")
+    text.append_numbers(b"rounds ", accepted, b" accepted ", rejected);
+    text.append(b" rejected");
+    text.append(b"\n");
 }
 
-// `refused 2`
-pub fn refused_line(text: &mut [u8], at: usize, refusal: u8) -> usize
-    requires { at + 32 ≤ length text.old }
-    ensures { (text.new ≡ placed text.old «at» (refused_line refusal)) × (result ≡ at + length (refused_line refusal)) × (result ≤ at + 32) }
+// `refused 2`; a number and no `Refusal`, since an audit's finding, printed by this line too, holds document 01's numbers.
+#[tactic(auto, using(text::proofs::Appending::pieces), unfolding(crate::specs::ReportLines::refused_line, crate::specs::ReportLines::refused_word, text::specs::Text::line_feed))]
+pub fn refused_line(text: &mut Writer, refusal: u8)
+    requires { text.old.written + 32 ≤ length text.old.buffer.now }
+    ensures puts { Appends text.old text.new (refused_line refusal) }
+    ensures most { text.new.written ≤ text.old.written + 32 }
 {
-    let end = append_number(text, at, b"refused ", refusal);
-    append(text, end, b"\n")
+    text.append_number(b"refused ", refusal);
+    text.append(b"\n");
 }

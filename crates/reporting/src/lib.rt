@@ -4,16 +4,18 @@
 // text, and answers the text's length; a buffer of another length stays as it is, and the answer is 0.
 #![tactic(auto)]
 
-ghost use Rattle.std.specs.Prelude.{◌≡◌, ◌≤◌, length, IfOk};
-ghost use Rattle.slices.specs.Slices.{placed, zeros as zeros_of};
+ghost use Rattle.std.specs.Prelude.{◌≡◌, ◌+◌, ◌≤◌, length, IfOk};
+ghost use Rattle.slices.specs.Slices.{zeros as zeros_of};
+ghost use Rattle.text.specs.Writer.{Appends};
 ghost use Rattle.refusal.specs.Refusal.{number_of};
-ghost use Rattle.reporting.specs.Report.{system_part, record_part, report_refusal, judged_text, report_length, report_out};
+ghost use Rattle.reporting.specs.Report.{system_part, record_part, report_refusal, judged_text, report_text, report_length, report_out};
 
 use record::header_of;
 use refusal::{Refusal, require};
 use report_lines::{refused_line, round_line, totals_line, verdict_line};
 use slices::{byte_at, part, zeros};
 use system::{System, system_length};
+use text::Writer;
 use transcript::{accepts_round, checked_system, round_challenge};
 
 // Zeros, with room for the longest input and one byte more, by which an input that is too long shows.
@@ -65,24 +67,34 @@ fn checked_input(input: &[u8]) -> Result<System, Refusal>
 }
 
 // Judges every round: a line for each, then the verdict, then how many are accepted and how many rejected.
-fn judged(system: &System, bytes: &[u8], text: &mut [u8]) -> usize
-    requires { length text.old ≡ 8192 }
-    ensures { (text.new ≡ placed text.old 0 (judged_text system.now.bytes.now bytes.now))
-        × (result ≡ length (judged_text system.now.bytes.now bytes.now)) × (result ≤ 8192) }
+fn judged(text: &mut Writer, system: &System, bytes: &[u8])
+    requires { text.old.written + 8192 ≤ length text.old.buffer.now }
+    ensures { Appends text.old text.new (judged_text system.now.bytes.now bytes.now) }
 {
     let rounds = header_of(bytes).rounds;
-    let mut at = 0;
     let mut accepted = 0;
     for r in 0..rounds {
         let is_accepted = accepts_round(system, bytes, r);
-        at = round_line(text, at, r + 1, round_challenge(bytes, r), is_accepted);
+        round_line(text, r + 1, round_challenge(bytes, r), is_accepted);
         accepted += u8::from(is_accepted);
     }
-    let next = verdict_line(text, at, accepted, rounds);
-    totals_line(text, next, accepted, rounds - accepted)
+    verdict_line(text, accepted, rounds);
+    totals_line(text, accepted, rounds - accepted);
+}
+
+// Puts the report on an input.
+fn append_report(text: &mut Writer, input: &[u8])
+    requires { text.old.written + 8192 ≤ length text.old.buffer.now }
+    ensures { Appends text.old text.new (report_text input.now) }
+{
+    match checked_input(input) {
+        Ok(system) => judged(text, &system, record_part(input)),
+        Err(refusal) => refused_line(text, u8::from(refusal)),
+    }
 }
 
 // Writes the report on an input, and answers its length; 0 and no Option, for the C entry answers the same.
+#[tactic(auto, unfolding(crate::specs::Report::report_length, crate::specs::Report::report_out))]
 pub fn report(input: &[u8], text: &mut [u8]) -> usize
     ensures { (result ≡ report_length input.now (length text.old))
         × (text.new ≡ report_out input.now text.old) × (result ≤ length text.old) }
@@ -90,8 +102,7 @@ pub fn report(input: &[u8], text: &mut [u8]) -> usize
     if text.len() != 8192 {
         return 0;
     }
-    match checked_input(input) {
-        Ok(system) => judged(&system, record_part(input), text),
-        Err(refusal) => refused_line(text, 0, u8::from(refusal)),
-    }
+    let mut writer = Writer::new(text);
+    append_report(&mut writer, input);
+    writer.written()
 }

@@ -4,6 +4,7 @@ use carrier_state::{Carrier, CarrierPhase};
 use hex_text::append_hex;
 use scheme::Scheme;
 use session_state::{Phase, Verdict};
+use text::Writer;
 
 // How many digits of a digest are shown: those of its first 8 bytes.
 const SHOWN: usize = 16;
@@ -11,7 +12,7 @@ const SHOWN: usize = 16;
 // The start of an output's SHA-256.
 pub fn say_digest<R: Print>(rt: &R, digest: &[u8; 32]) {
     let mut text = [0u8; 64];
-    append_hex(&mut text, 0, digest);
+    append_hex(&mut Writer::new(&mut text), digest);
     files::print(rt, b" ");
     files::print(rt, &text[..SHOWN]);
 }

@@ -3,7 +3,7 @@ use Prim.Native.Nat.{ℕ}
 use mathlib.Core.Path.{◌≡◌, refl, ap₂, ◌∙◌}
 use mathlib.Core.List.{List}
 use native.Mathlib.Omega.{arith}
-use Rattle.text.proofs.Appending.{appended_by}
+use Rattle.text.proofs.Appending.{appends_by}
 use Rattle.book_form.specs.Book.{table_in}
 use Rattle.book_form.specs.Labels.{label_at}
 use Rattle.book_lines.proofs.CardLines.{label_short, key_short, card_text}
@@ -19,11 +19,13 @@ card_line-requires c =
     let key = key_short _ _ _ _ c.key_at.ensures in
     omega (arith, label, key)
 
-pub returns : goal.returns
-returns c =
-    let put = c.card_line.ensures in
-    let is = in_table _ _ _ _ _ c.labels_of.ensures c.at.ensures in
-    let label = label_short _ (table_in c.args.book.now) _ is in
+pub returns-clause-puts : goal.returns-clause-puts
+returns-clause-puts c =
+    let label = in_table _ _ _ _ _ c.labels_of.ensures c.at.ensures in
+    appends_by c.card_line.ensures.puts (card_text _ _ _ _ _ refl label c.key_at.ensures)
+
+pub returns-clause-most : goal.returns-clause-most
+returns-clause-most c =
+    let label = label_short _ (table_in c.args.book.now) _ (in_table _ _ _ _ _ c.labels_of.ensures c.at.ensures) in
     let key = key_short _ _ _ _ c.key_at.ensures in
-    let card = appended_by _ _ _ _ _ _ (put.0, put.1) (card_text _ _ _ _ _ refl is c.key_at.ensures) in
-    (card.0, card.1, omega (arith, label, key))
+    omega (arith, label, key)

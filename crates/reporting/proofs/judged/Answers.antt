@@ -8,22 +8,21 @@ use Rattle.reporting.proofs.Lines.{lines_start, lines_step, text_end}
 use Rattle.reporting.proofs.judged.Goals as goal
 
 pub loop-r-init : goal.loop-r-init
-loop-r-init c = (omega arith, count_start _ _ 0 refl, lines_start _ _ _ 0 refl)
+loop-r-init c = (omega arith, count_start _ _ 0 refl, lines_start _ _ _ (omega arith), omega arith)
 
 pub loop-r-preserved : goal.loop-r-preserved
 loop-r-preserved c =
     let loop = c.loop-r in
-    let line = c.round_line-at in
+    let line = c.round_line.ensures in
     let judged = c.accepts_round-is_accepted.ensures in
     let one_more = c.from-accepted.ensures ∙ as_count _ in (
       one_more_at_most _ _ _ _ one_more loop.invariant.0,
       count_step _ _ _ _ _ _ _ loop.invariant.1 refl judged (ap (λ (k : ℕ). loop.accepted + k) one_more),
-      lines_step _ _ _ _ _ _ _ _ _ _ _ loop.invariant.2 c.requires (omega arith) refl c.round_challenge.ensures judged line.ensures.0 line.ensures.1 line.ensures.2,
+      lines_step _ _ _ _ _ _ loop.invariant.2 refl c.round_challenge.ensures judged line.puts,
+      omega (arith, line.most),
     )
 
 pub returns : goal.returns
 returns c =
-    let totals = c.totals_line.ensures in
-    let verdict = c.verdict_line-next.ensures in
     let loop = c.loop-r in
-    text_end _ _ _ _ _ _ _ _ _ _ _ _ loop.r loop.invariant.2 c.requires (loop.auto.text ∙ c.requires) (omega arith) (omega arith) (ap (λ (h : Header). h.rounds) c.header_of-rounds.ensures) loop.invariant.1 refl (verdict.0, verdict.1) verdict.2 (totals.0, totals.1) totals.2
+    text_end _ _ _ _ _ loop.r loop.invariant.2 (omega arith) (ap (λ (h : Header). h.rounds) c.header_of-rounds.ensures) loop.invariant.1 refl c.verdict_line.ensures.puts c.totals_line.ensures.puts
