@@ -13,6 +13,7 @@ use session_state::Answered;
 use system::System;
 
 // Three passes: writes the commitments, and keeps what is lent and e1.
+#[tactic(auto, using(card_state::proofs::Steps::committed_three_lem, card_state::proofs::Steps::sent_three), unfolding(exchange::specs::Card::three_vectors, exchange::specs::Card::three_committed))]
 fn commit_three(card: Card, system: &System, lent: &[u8], out: &mut [u8]) -> Card
     requires { (card.scheme ≡ ThreePass) × (length out.old ≡ commitments_length ThreePass) }
     ensures session { result ≡ committed_card card system.now.bytes.now lent.now }
@@ -27,6 +28,7 @@ fn commit_three(card: Card, system: &System, lent: &[u8], out: &mut [u8]) -> Car
 }
 
 // Five passes: writes the commitments, and keeps what is lent.
+#[tactic(auto, using(card_state::proofs::Steps::committed_five, card_state::proofs::Steps::sent_five), unfolding(exchange::specs::Card::five_committed, slices::specs::Slices::zeros))]
 fn commit_five(card: Card, system: &System, lent: &[u8], out: &mut [u8]) -> Card
     requires { (card.scheme ≡ FivePass) × (length out.old ≡ commitments_length FivePass) }
     ensures session { result ≡ committed_card card system.now.bytes.now lent.now }

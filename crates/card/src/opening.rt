@@ -10,6 +10,7 @@ use session_state::Answered;
 use system::System;
 
 // A session in its first round.
+#[tactic(auto, unfolding(card_state::specs::Card::opened_card, slices::specs::Slices::zeros))]
 fn opened_card(system: &System, scheme: u8, rounds: u8, s: &[u8]) -> Card
     ensures { result ≡ opened_card system.now.bytes.now scheme rounds s.now }
 {

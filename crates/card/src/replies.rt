@@ -13,6 +13,7 @@ use scheme::Scheme;
 use session_state::{Answered, next_count};
 
 // The vectors of a three-pass round as the card holds them.
+#[tactic(auto, unfolding(card_state::specs::Card::held_vectors, slices::specs::Slices::zeros))]
 fn held_vectors(card: Card) -> Vectors
     ensures { vectors_of result ≡ held_vectors card }
 {

@@ -75,6 +75,7 @@ pub struct Pair {
     pub right: Text,
 }
 
+#[tactic(auto, unfolding(crate::specs::Clash::left_string, crate::specs::Clash::right_string))]
 pub fn opened_pair(system: &System, records: &Records, r: u8, k: u8) -> Pair
     ensures { PairOf result (left_string records.now.scheme system.now.bytes.now records.now.a.now records.now.b.now records.now.c.now r k)
         (right_string records.now.scheme system.now.bytes.now records.now.a.now records.now.b.now records.now.c.now records.now.d.now r k) }
@@ -93,6 +94,7 @@ fn same_pair(system: &System, records: &Records, r: u8, k: u8) -> bool
 }
 
 // The first commitment whose pair differs.
+#[tactic(auto, using(refusal::proofs::Search::where_start, refusal::proofs::Search::where_step, refusal::proofs::Search::where_here, refusal::proofs::Search::where_end), unfolding(crate::specs::Clash::first_clash))]
 pub fn first_clash(system: &System, records: &Records, r: u8) -> Option<u8>
     ensures { counted result ≡ first_clash records.now.scheme system.now.bytes.now records.now.a.now records.now.b.now records.now.c.now records.now.d.now r }
 {

@@ -96,6 +96,7 @@ pub fn check_comparable<'a>(system: &'a [u8], records: &Records) -> Result<Syste
 }
 
 // The first rejected round of a record.
+#[tactic(auto, using(refusal::proofs::Search::where_start, refusal::proofs::Search::where_step, refusal::proofs::Search::where_here, refusal::proofs::Search::where_end), unfolding(crate::specs::Comparable::rejected_round))]
 fn rejected_round(system: &System, bytes: &[u8]) -> Option<u8>
     ensures found { counted result ≡ rejected_round system.now.bytes.now bytes.now }
     ensures below { IfSome result (λ r. r < 255) }

@@ -40,6 +40,7 @@ fn opening_three(
 }
 
 // Three passes: the string with which a round of a record opens commitment k.
+#[tactic(auto, using(commitment::proofs::Texts::text_as, crate::proofs::Listed::three_in))]
 fn opening_three_in(system: &System, bytes: &[u8], r: u8, k: u8) -> Text
     requires { (header_in bytes.now).scheme ≡ ThreePass }
     ensures { TextOf (string_in system.now.bytes.now bytes.now r k) 0 result }
@@ -57,6 +58,7 @@ fn opening_three_in(system: &System, bytes: &[u8], r: u8, k: u8) -> Text
 }
 
 // Five passes: a round opens one commitment, by its challenge.
+#[tactic(auto, using(commitment::proofs::Texts::text_as, crate::proofs::Listed::five_in))]
 fn opening_five_in(system: &System, bytes: &[u8], r: u8, k: u8) -> Text
     requires { (header_in bytes.now).scheme ≡ FivePass }
     ensures { TextOf (string_in system.now.bytes.now bytes.now r k) 0 result }
