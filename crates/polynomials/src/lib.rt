@@ -63,8 +63,9 @@ fn products(system: &System, row: &[u8]) -> [u8; 96]
     out
 }
 
-// F(x).
+// F(x). F and G are not put inline: the row of G would stand on a caller's stack beside that of F.
 #[tactic(auto, using(crate::proofs::Evaluation::few_unknowns, crate::proofs::Evaluation::is_f))]
+#[inline(never)]
 pub fn f(system: &System, x: [u8; 96]) -> [u8; 96]
     ensures { result ≡ F system.now.bytes.now x }
 {
@@ -75,6 +76,7 @@ pub fn f(system: &System, x: [u8; 96]) -> [u8; 96]
 
 // G(x, y).
 #[tactic(auto, using(crate::proofs::Evaluation::few_unknowns, crate::proofs::Evaluation::is_g))]
+#[inline(never)]
 pub fn g(system: &System, x: [u8; 96], y: [u8; 96]) -> [u8; 96]
     ensures { result ≡ G system.now.bytes.now x y }
 {
