@@ -1,3 +1,3 @@
--- Worked texts of the audit, and a text at the front of its buffer.
+-- Worked texts of the audit, and how long a part is.
 pub mod Examples
-mod Front
+mod Parts

@@ -68,6 +68,7 @@ fn refusal_line(text: &mut Writer, number: u8, whose: u8, round: u8)
 }
 
 // Puts the text of what an audit answers, where the system's n is given.
+#[tactic(auto, using(crate::proofs::Parts::part_short), unfolding(auditing::specs::Outcome::outcome_of, auditing::specs::Outcome::outcome_by, crate::specs::AuditLines::audit_text, crate::specs::AuditLines::secret_word))]
 fn append_audit(text: &mut Writer, audited: Audited, n: u8)
     requires { text.old.written + 2048 ≤ length text.old.buffer.now }
     ensures { Appends text.old text.new (audit_text n (outcome_of audited)) }
@@ -81,6 +82,7 @@ fn append_audit(text: &mut Writer, audited: Audited, n: u8)
 }
 
 // The lines of a clash, each string as long as it says.
+#[tactic(auto, using(crate::proofs::Parts::part_short))]
 fn both_strings(text: &mut Writer, k: u8, first: Text, second: Text)
     requires { text.old.written + 2048 ≤ length text.old.buffer.now }
     ensures { Appends text.old text.new (clash_lines k (content first) (content second)) }
@@ -132,8 +134,10 @@ fn n_in(system: File) -> u8
 // audited.
 #[tactic(auto, unfolding(crate::specs::AuditLines::three_text))]
 pub fn three_text(system: File, a: File, b: File, c: File, text: &mut [u8; 2048]) -> usize
-    ensures { (text.new ≡ placed text.old 0 (three_text (bytes_of system.entry) (bytes_of a.entry) (bytes_of b.entry) (bytes_of c.entry)))
-        × (result ≡ length (three_text (bytes_of system.entry) (bytes_of a.entry) (bytes_of b.entry) (bytes_of c.entry))) }
+    ensures { (text.new ≡ placed text.old 0
+        (three_text (bytes_of system.entry) (bytes_of a.entry) (bytes_of b.entry) (bytes_of c.entry)))
+        × (result ≡ length
+        (three_text (bytes_of system.entry) (bytes_of a.entry) (bytes_of b.entry) (bytes_of c.entry))) }
 {
     let audited = audit_three(system.bytes(), a.bytes(), b.bytes(), c.bytes());
     audit_text(audited, n_in(system), text)
@@ -142,8 +146,10 @@ pub fn three_text(system: File, a: File, b: File, c: File, text: &mut [u8; 2048]
 // The same of scheme 5.
 #[tactic(auto, unfolding(crate::specs::AuditLines::five_text))]
 pub fn five_text(system: File, a: File, b: File, c: File, d: File, text: &mut [u8; 2048]) -> usize
-    ensures { (text.new ≡ placed text.old 0 (five_text (bytes_of system.entry) (bytes_of a.entry) (bytes_of b.entry) (bytes_of c.entry) (bytes_of d.entry)))
-        × (result ≡ length (five_text (bytes_of system.entry) (bytes_of a.entry) (bytes_of b.entry) (bytes_of c.entry) (bytes_of d.entry))) }
+    ensures { (text.new ≡ placed text.old 0
+        (five_text (bytes_of system.entry) (bytes_of a.entry) (bytes_of b.entry) (bytes_of c.entry) (bytes_of d.entry)))
+        × (result ≡ length
+        (five_text (bytes_of system.entry) (bytes_of a.entry) (bytes_of b.entry) (bytes_of c.entry) (bytes_of d.entry))) }
 {
     let audited = audit_five(system.bytes(), a.bytes(), b.bytes(), c.bytes(), d.bytes());
     audit_text(audited, n_in(system), text)

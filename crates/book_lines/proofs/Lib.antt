@@ -2,4 +2,3 @@
 pub mod Examples
 pub mod Printed
 mod CardLines
-mod Answers

@@ -49,6 +49,7 @@ fn sizes_line(text: &mut Writer, front: Front)
 }
 
 // Puts the line of card i.
+#[tactic(auto, using(crate::proofs::CardLines::label_short, crate::proofs::CardLines::key_short), unfolding(crate::specs::BookLines::card_of))]
 fn append_card(text: &mut Writer, book: &[u8], i: u32)
     requires { ((front_in book.now).m ≤ 96) × (text.old.written + 214 ≤ length text.old.buffer.now) }
     ensures puts { Appends text.old text.new (card_of book.now i) }
@@ -58,6 +59,7 @@ fn append_card(text: &mut Writer, book: &[u8], i: u32)
 }
 
 // The numbers of a book that is not refused, then a line a card.
+#[tactic(auto, using(text::proofs::Appending::pieces, crate::proofs::CardLines::cards))]
 fn all_cards(text: &mut Writer, book: &[u8])
     requires { (book_refusal book.now ≡ 0) × (text.old.written + 428064 ≤ length text.old.buffer.now) }
     ensures { Appends text.old text.new (sizes_line (front_in book.now) ++ joined (front_in book.now).count (card_of book.now)) }
@@ -70,6 +72,7 @@ fn all_cards(text: &mut Writer, book: &[u8])
 }
 
 // Puts all cards of a book, or its refusal.
+#[tactic(auto, using(refusal::proofs::Answers::refuses), unfolding(crate::specs::BookLines::book_text))]
 fn append_book(text: &mut Writer, book: &[u8])
     requires { text.old.written + 428064 ≤ length text.old.buffer.now }
     ensures { Appends text.old text.new (book_text book.now) }
@@ -110,6 +113,7 @@ fn key_line(text: &mut Writer, key: &[u8])
 }
 
 // Puts the key of the card with an ICCID, of m bytes, or `absent`, or the refusal.
+#[tactic(auto, unfolding(crate::specs::BookLines::lookup_text, crate::specs::BookLines::answer_line, crate::specs::BookLines::absent_line, book_lookup::specs::Lookup::no_key))]
 fn append_lookup<'a>(text: &mut Writer, book: &'a [u8], iccid: &'a [u8])
     requires { text.old.written + 193 ≤ length text.old.buffer.now }
     ensures { Appends text.old text.new (lookup_text book.now iccid.now) }

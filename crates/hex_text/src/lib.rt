@@ -32,6 +32,7 @@ fn append_byte(text: &mut Writer, byte: u8)
 }
 
 // Puts two digits for each byte.
+#[tactic(auto, using(text::proofs::Appending::pieces, crate::proofs::Digits::digits))]
 pub fn append_hex(text: &mut Writer, s: &[u8])
     requires { text.old.written + 2 * length s.now ≤ length text.old.buffer.now }
     ensures puts { Appends text.old text.new (hex s.now) }

@@ -9,7 +9,7 @@ ghost use Rattle.iccid.specs.Iccid.{half_digit, label_digits, half_of, character
 use text::Writer;
 
 // Puts a half's digit, nothing for F.
-#[tactic(auto, using(text::proofs::Appending::nothing_put), unfolding(crate::specs::Iccid::half_digit))]
+#[tactic(auto, using(text::proofs::Appending::pieces), unfolding(crate::specs::Iccid::half_digit))]
 fn append_half(text: &mut Writer, half: u8)
     requires { (half < 16) × (text.old.written + 1 ≤ length text.old.buffer.now) }
     ensures puts { Appends text.old text.new (half_digit half) }
@@ -32,6 +32,7 @@ fn append_halves(text: &mut Writer, byte: u8)
 }
 
 // Puts the digits of a label.
+#[tactic(auto, using(text::proofs::Appending::pieces, crate::proofs::Digits::digits))]
 pub fn append_label(text: &mut Writer, label: &[u8])
     requires { text.old.written + 2 * length label.now ≤ length text.old.buffer.now }
     ensures puts { Appends text.old text.new (label_digits label.now) }

@@ -38,7 +38,7 @@ pub fn is_label(bytes: &[u8]) -> bool
     let good = first
         .iter()
         .fold(true, |good, &byte| good & are_digits(byte));
-    good && are_last(bytes[9])
+    good & are_last(bytes[9])
 }
 
 // A byte as a number of two digits, the first of them the higher.

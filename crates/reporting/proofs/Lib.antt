@@ -1,5 +1,4 @@
 -- Laws of the report's text as it grows, and what is claimed of its end.
-pub mod Answers
 pub mod RoundLines
 pub mod Lines
 mod Inputs

@@ -1,35 +1,36 @@
--- The text of a report grows by a line a round. Assumes nothing.
-use Prim.Native.Nat.{ℕ, ◌+◌, ◌-◌, ◌≤◌}
-use mathlib.Core.Path.{◌≡◌, ap₂}
-use mathlib.Core.Bool.{Bool}
-use mathlib.Core.List.{List}
+-- The text of a report grows by a line a round, and so does the count of those that are accepted. Assumes nothing.
+use Prim.Native.Nat.{ℕ, ◌+◌, ◌≤◌}
+use mathlib.Core.Path.{◌≡◌, refl, ap}
+use mathlib.Core.Bool.{Bool, true, false, cond}
+use mathlib.Core.List.{List, [], ◌++◌}
 use native.Mathlib.Numerals.{add-one}
-use lib.ListN.{length}
-use Rattle.record_form.specs.Record.{header_in}
+use native.Mathlib.Omega.{arith}
 use Rattle.transcript.specs.Transcript.{round_challenge, accepted_round, accepted_count}
-use Rattle.text.specs.declared.Writer.{Writer}
-use Rattle.text.specs.Writer.{Appends}
-use Rattle.text.proofs.Appending.{appends_by, nothing_put, appends_both}
-use Rattle.report_lines.specs.ReportLines.{round_line, verdict_line, totals_line}
-use Rattle.reporting.specs.Report.{round_lines, judged_text}
+use Rattle.transcript.proofs.Counts.{as_count}
+use Rattle.report_lines.specs.ReportLines.{round_line}
+use Rattle.reporting.specs.Report.{round_lines}
 use Rattle.reporting.proofs.RoundLines.{accepted_lines, rejected_lines}
 
 module _ (system b : List ℕ) where
-  pub lines_start : (start : Writer) → start.written ≤ length start.buffer.now → Appends start start (round_lines system b 0)
+  pub no_lines : round_lines system b 0 ≡ []
   unfolding round_lines
-  lines_start start room = nothing_put start room
+  no_lines = refl
 
-  pub lines_step : {start text after : Writer} (r later challenge : ℕ) (accepted : Bool) → Appends start text (round_lines system b r) → later ≡ r + 1 →
-      challenge ≡ round_challenge b r → accepted ≡ accepted_round system b r → Appends text after (round_line (r + 1) challenge accepted) →
-      Appends start after (round_lines system b later)
+  pub one_line : (r : ℕ) → round_lines system b (r + 1) ≡ round_lines system b r ++ round_line (r + 1) (round_challenge b r) (accepted_round system b r)
   unfolding round_lines
-  lines_step r later challenge accepted lines el ec ea line =
-      rw (el, add-one r) (appends_both lines (appends_by line (ap₂ (round_line (r + 1)) ec ea)))
+  one_line r = ap (round_lines system b) (add-one r)
 
-  -- the verdict stands behind the last round's line, and both totals behind it
-  pub text_end : {start text verdict after : Writer} (count rejected rounds r : ℕ) → Appends start text (round_lines system b r) →
-      r ≡ rounds → rounds ≡ (header_in b).rounds → count ≡ accepted_count system b r → rejected ≡ rounds - count →
-      Appends text verdict (verdict_line count rounds) → Appends verdict after (totals_line count rejected) → Appends start after (judged_text system b)
-  unfolding judged_text
-  text_end count rejected rounds r lines last all ec er verdict totals =
-      appends_by (appends_both lines (appends_both verdict totals)) (simp (er, ec, last, all, accepted_lines, rejected_lines))
+  pub none_counted : accepted_count system b 0 ≡ 0
+  unfolding accepted_count
+  none_counted = refl
+
+  pub one_counted : (r : ℕ) → accepted_count system b (r + 1) ≡ accepted_count system b r + cond (accepted_round system b r) 1 0
+  unfolding accepted_count
+  one_counted r = rw (add-one r) refl
+
+pub at_most_one : (t : Bool) → cond t 1 0 ≤ 1
+at_most_one true = omega arith
+at_most_one false = omega arith
+
+-- what the loop over the rounds wants
+pub ruleset rounds = (no_lines, one_line, none_counted, one_counted, as_count, at_most_one, accepted_lines, rejected_lines)

@@ -67,6 +67,7 @@ fn checked_input(input: &[u8]) -> Result<System, Refusal>
 }
 
 // Judges every round: a line for each, then the verdict, then how many are accepted and how many rejected.
+#[tactic(auto, using(text::proofs::Appending::pieces, crate::proofs::Lines::rounds), unfolding(crate::specs::Report::judged_text))]
 fn judged(text: &mut Writer, system: &System, bytes: &[u8])
     requires { text.old.written + 8192 ≤ length text.old.buffer.now }
     ensures { Appends text.old text.new (judged_text system.now.bytes.now bytes.now) }
@@ -83,6 +84,7 @@ fn judged(text: &mut Writer, system: &System, bytes: &[u8])
 }
 
 // Puts the report on an input.
+#[tactic(auto, using(refusal::proofs::Answers::refuses), unfolding(crate::specs::Report::report_text))]
 fn append_report(text: &mut Writer, input: &[u8])
     requires { text.old.written + 8192 ≤ length text.old.buffer.now }
     ensures { Appends text.old text.new (report_text input.now) }

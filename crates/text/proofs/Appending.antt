@@ -1,6 +1,6 @@
 -- A text that is written piece by piece. Assumes nothing.
-use Prim.Native.Nat.{ℕ, ◌+◌, ◌≤◌}
-use mathlib.Core.Path.{◌≡◌, refl, sym, ◌∙◌}
+use Prim.Native.Nat.{ℕ, ◌+◌}
+use mathlib.Core.Path.{◌≡◌, ◌∙◌}
 use mathlib.Core.List.{List, [], ◌++◌}
 use native.Mathlib.Nat.{add-zero}
 use native.Mathlib.Omega.{arith}
@@ -11,21 +11,10 @@ use Rattle.text.specs.Text.{decimal, numbered}
 use Rattle.text.specs.declared.Writer.{Writer}
 use Rattle.text.specs.Writer.{Appends}
 
--- the same text by another name
-pub appends_by : {a b : Writer} {s t : List ℕ} → Appends a b s → s ≡ t → Appends a b t
-appends_by put e = rw (sym e) put
-
 -- nothing is put
-pub nothing_put : (a : Writer) → a.written ≤ length a.buffer.now → Appends a a []
+pub placed_none : (l : List ℕ) (place : ℕ) → placed l place [] ≡ l
 unfolding placed
-nothing_put a within =
-    record {
-      bytes = rw (add-zero a.written) (sym (take-append-drop a.written a.buffer.now));
-      written = sym (add-zero a.written);
-      size = refl;
-      room = within;
-      same_buffer = refl;
-    }
+placed_none l place = rw (add-zero place) (take-append-drop place l)
 
 -- a piece behind another is both in one
 pub appends_both : {a b c : Writer} {s t : List ℕ} → Appends a b s → Appends b c t → Appends a c (s ++ t)
@@ -43,5 +32,5 @@ pub numbered_length : (word : List ℕ) (k : ℕ) → length (numbered word k) �
 unfolding numbered
 numbered_length word k = length-append word (decimal k)
 
--- what the writer's functions want of pieces in a row
-pub ruleset pieces = (placed-append, length-append)
+-- what functions that put pieces in a row want
+pub ruleset pieces = (placed_none, placed-append, length-append)

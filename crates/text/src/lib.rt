@@ -98,7 +98,7 @@ impl<'a> Writer<'a> {
     }
 }
 
-// The ASCII code of a number's last digit.
+// The ASCII code of a number's last digit. A digit fits in a byte; `u8::try_from` would ask for an answer where it does not.
 #[tactic(auto, unfolding(crate::specs::Text::last_digit))]
 fn last_digit(k: u32) -> u8
     ensures { result ≡ last_digit k }

@@ -1,7 +1,10 @@
 -- A byte a turn. Assumes nothing.
-use Rattle.text.proofs.Digits.{Digits}
-use Rattle.iccid.proofs.Digits.{byte_digits}
+use Prim.Native.Nat.{◌+◌, ◌*◌, ◌≤◌}
+use lib.ListN.{take}
+use Rattle.text.specs.Writer.{Appends}
+use Rattle.iccid.specs.Iccid.{label_digits}
 use Rattle.iccid.proofs.append_label.Given as goal
 
 abbrev pub invariant-loop-byte : goal.invariant-loop-byte
-invariant-loop-byte l = Digits byte_digits l.initial.text l.text l.label l.byte-index
+invariant-loop-byte l =
+    Appends l.initial.text l.text (label_digits (take l.byte-index l.label)) × (l.text.written ≤ l.initial.text.written + 2 * l.byte-index)

@@ -34,18 +34,10 @@ of_ten l nine ten is =
     ap (λ (t : Bool). t && are_last (l ! 9)) (is ∙ in_turn 9 l (omega (arith, ten))) ∙
     sym (ap (λ (t : Bool). t && (all_of 9 (λ k. are_digits (l ! k)) && are_last (l ! 9))) (eq-eqb (length l) 10 ten))
 
-pub returns-then-good : goal.returns-then-good
+pub returns : goal.returns
 unfolding also
-returns-then-good c =
+returns c =
     let nine = fold_over fronts (λ y. y.now) _ (λ ys good. good ≡ fold also true ys) _ (λ ys a x b f' j k.
     let e : b ≡ also a x.now = search rules in
     (e ∙ ap (λ (t : Bool). also t x.now) j ∙ sym (fold_push also true ys x.now), search rules)) _ _ _ _ (slice_gives c.iter.result) refl c.fold-good.ensures.ran in
-    c.are_last.ensures ∙ ap (λ (t : Bool). t && are_last (c.args.bytes.now ! 9)) (sym c.if-good.true) ∙ of_ten c.args.bytes.now _ (omega arith) (nine ∙ ap (fold also true) c.iter.ensures.rest)
-
-pub returns-else-good : goal.returns-else-good
-unfolding also
-returns-else-good c =
-    let nine = fold_over fronts (λ y. y.now) _ (λ ys good. good ≡ fold also true ys) _ (λ ys a x b f' j k.
-    let e : b ≡ also a x.now = search rules in
-    (e ∙ ap (λ (t : Bool). also t x.now) j ∙ sym (fold_push also true ys x.now), search rules)) _ _ _ _ (slice_gives c.iter.result) refl c.fold-good.ensures.ran in
-    c.if-good.false ∙ ap (λ (t : Bool). t && are_last (c.args.bytes.now ! 9)) (sym c.if-good.false) ∙ of_ten c.args.bytes.now _ (omega arith) (nine ∙ ap (fold also true) c.iter.ensures.rest)
+    ap (λ (t : Bool). c.fold-good.result && t) c.are_last.ensures ∙ of_ten c.args.bytes.now _ (omega arith) (nine ∙ ap (fold also true) c.iter.ensures.rest)
