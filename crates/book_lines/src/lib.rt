@@ -7,14 +7,13 @@ ghost use Rattle.std.specs.Prelude.{◌≡◌, ◌++◌, ◌+◌, ◌*◌, ◌�
 ghost use Rattle.slices.specs.Slices.{placed, joined};
 ghost use Rattle.text.specs.Writer.{Appends};
 ghost use Rattle.book_form.specs.Book.{front_in};
-ghost use Rattle.book_reader.specs.Reader.{book_refusal};
 ghost use Rattle.book_lookup.specs.Lookup.{lookup_of, answered};
 ghost use Rattle.iccid.specs.Iccid.{label_from};
 ghost use Rattle.book_lines.specs.BookLines.{card_line, sizes_line, card_of, book_text, key_line, lookup_text};
 
 use book_form::Front;
 use book_lookup::lookup;
-use book_reader::{front_of, key_at, labels_of, read};
+use book_reader::{Book, front_of, key_at, labels_of};
 use hex_text::append_hex;
 use iccid::{append_label, label_of};
 use refusal::Refusal;
@@ -49,22 +48,23 @@ fn sizes_line(text: &mut Writer, front: Front)
 }
 
 // Puts the line of card i.
-#[tactic(auto, using(crate::proofs::CardLines::label_short, crate::proofs::CardLines::key_short), unfolding(crate::specs::BookLines::card_of))]
-fn append_card(text: &mut Writer, book: &[u8], i: u32)
-    requires { ((front_in book.now).m ≤ 96) × (text.old.written + 214 ≤ length text.old.buffer.now) }
-    ensures puts { Appends text.old text.new (card_of book.now i) }
+#[tactic(auto, using(crate::proofs::CardLines::label_short, crate::proofs::CardLines::key_short, crate::proofs::CardLines::short_keys), unfolding(crate::specs::BookLines::card_of))]
+fn append_card(text: &mut Writer, book: &Book, i: u32)
+    requires { text.old.written + 214 ≤ length text.old.buffer.now }
+    ensures puts { Appends text.old text.new (card_of book.now.bytes.now i) }
     ensures most { text.new.written ≤ text.old.written + 214 }
 {
-    card_line(text, labels_of(book).at(i), key_at(book, i));
+    card_line(text, labels_of(book.bytes).at(i), key_at(book.bytes, i));
 }
 
-// The numbers of a book that is not refused, then a line a card.
+// The numbers of a book, then a line a card.
 #[tactic(auto, using(text::proofs::Appending::pieces, crate::proofs::CardLines::cards))]
-fn all_cards(text: &mut Writer, book: &[u8])
-    requires { (book_refusal book.now ≡ 0) × (text.old.written + 428064 ≤ length text.old.buffer.now) }
-    ensures { Appends text.old text.new (sizes_line (front_in book.now) ++ joined (front_in book.now).count (card_of book.now)) }
+fn all_cards(text: &mut Writer, book: &Book)
+    requires { text.old.written + 428064 ≤ length text.old.buffer.now }
+    ensures { Appends text.old text.new
+        (sizes_line (front_in book.now.bytes.now) ++ joined (front_in book.now.bytes.now).count (card_of book.now.bytes.now)) }
 {
-    let front = front_of(book);
+    let front = front_of(book.bytes);
     sizes_line(text, front);
     for card in 0..front.count {
         append_card(text, book, card);
@@ -77,8 +77,8 @@ fn append_book(text: &mut Writer, book: &[u8])
     requires { text.old.written + 428064 ≤ length text.old.buffer.now }
     ensures { Appends text.old text.new (book_text book.now) }
 {
-    match read(book) {
-        Ok(_) => all_cards(text, book),
+    match Book::new(book) {
+        Ok(book) => all_cards(text, &book),
         Err(refusal) => refused_line(text, u8::from(refusal)),
     }
 }
