@@ -73,10 +73,15 @@ fn append_audit(text: &mut Writer, audited: Audited, n: u8)
     requires { text.old.written + 2048 ≤ length text.old.buffer.now }
     ensures { Appends text.old text.new (audit_text n (outcome_of audited)) }
 {
-    let secret = audited.secret;
-    match audited.finding {
+    let Audited {
+        finding,
+        secret,
+        first,
+        second,
+    } = audited;
+    match finding {
         Finding::Secret => hex_line(text, b"secret ", part(&secret, 0, usize::from(n))),
-        Finding::Clash(k) => both_strings(text, k, audited.first, audited.second),
+        Finding::Clash(k) => both_strings(text, k, first, second),
         Finding::Refused(number, whose, round) => refusal_line(text, number, whose, round),
     }
 }

@@ -97,7 +97,9 @@ fn say_ends<R: Print>(rt: &R, ends: &Ends) {
         CarrierPhase::Closed(Verdict::Rejected) => "closed, rejected",
         _ => "open",
     };
-    let accepted = ends.carrier.accepted;
     let _ = println!(rt; "card {card}");
-    let _ = println!(rt; "carrier {carrier}, rounds accepted: {accepted}");
+    let _ = println!(rt;
+        "carrier {carrier}, rounds accepted: {}",
+        ends.carrier.accepted
+    );
 }
