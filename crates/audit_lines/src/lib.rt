@@ -127,7 +127,7 @@ impl<'a> File<'a> {
     }
 }
 
-// The n of a system's file.
+// The n of a system's file, of any bytes: what is refused is printed too.
 #[tactic(auto, unfolding(system::specs::System::n_of))]
 fn n_in(system: File) -> u8
     ensures { result ≡ n_of (bytes_of system.entry) }

@@ -43,12 +43,17 @@ pub fn set_alpha(c: Carrier, alpha: u8) -> Answered<Carrier, ()>
     ensures answer { number_of result.answer ≡ alpha_refusal c alpha }
     ensures session { result.session ≡ kept (number_of result.answer) c (with_alpha c alpha) }
 {
-    let sent = c.commitments;
-    let held = held_turn(alpha, &[]);
     match check_alpha(c, alpha) {
         Ok(()) => Answered::done(
             (),
-            carrier_with(c, CarrierPhase::TakeMiddle, c.accepted, sent, held, 0),
+            carrier_with(
+                c,
+                CarrierPhase::TakeMiddle,
+                c.accepted,
+                c.commitments,
+                held_turn(alpha, &[]),
+                0,
+            ),
         ),
         Err(refusal) => Answered::refused(refusal, c),
     }
@@ -60,12 +65,17 @@ pub fn take_middle(c: Carrier, middle: &[u8]) -> Answered<Carrier, ()>
     ensures answer { number_of result.answer ≡ middle_refusal c middle.now }
     ensures session { result.session ≡ kept (number_of result.answer) c (with_middle c middle.now) }
 {
-    let sent = c.commitments;
-    let held = held_turn(c.turn[0], middle);
     match check_middle(c, middle) {
         Ok(()) => Answered::done(
             (),
-            carrier_with(c, CarrierPhase::SetChallenge, c.accepted, sent, held, 0),
+            carrier_with(
+                c,
+                CarrierPhase::SetChallenge,
+                c.accepted,
+                c.commitments,
+                held_turn(c.turn[0], middle),
+                0,
+            ),
         ),
         Err(refusal) => Answered::refused(refusal, c),
     }
@@ -77,7 +87,6 @@ pub fn set_challenge(c: Carrier, challenge: u8) -> Answered<Carrier, ()>
     ensures answer { number_of result.answer ≡ challenge_refusal c challenge }
     ensures session { result.session ≡ kept (number_of result.answer) c (with_challenge c challenge) }
 {
-    let (sent, held) = (c.commitments, c.turn);
     match check_challenge(c, challenge) {
         Ok(()) => Answered::done(
             (),
@@ -85,8 +94,8 @@ pub fn set_challenge(c: Carrier, challenge: u8) -> Answered<Carrier, ()>
                 c,
                 CarrierPhase::TakeReply,
                 c.accepted,
-                sent,
-                held,
+                c.commitments,
+                c.turn,
                 challenge,
             ),
         ),

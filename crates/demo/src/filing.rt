@@ -7,7 +7,7 @@ use files::{has_word, path_named, print};
 use hex_text::append_hex;
 use record_form::Header;
 use record_writer::write;
-use reporting::{report, text_buffer};
+use reporting::{TEXT, report};
 use slices::{part, put, zeros};
 use std::rt::{Env, Files};
 use text::Writer;
@@ -85,7 +85,7 @@ fn say_hex<R: Print>(rt: &R, digest: &[u8; 32]) {
 
 // Prints the report on a system and a record.
 fn say_report<R: Print>(rt: &R, input: &[u8]) {
-    let mut text = text_buffer();
+    let mut text = zeros::<TEXT>();
     let length = report(input, &mut text);
     print(rt, part(&text, 0, length));
 }

@@ -21,7 +21,7 @@ use crate::refused::Refused;
 use crate::terms::Terms;
 use carrier_state::CarrierPhase;
 use files::read_input;
-use reporting::{input_buffer, system_part};
+use reporting::{INPUT as ROOM, system_part};
 use session_state::Verdict;
 use slices::{part, zeros};
 use std::rt::{Env, Files};
@@ -33,7 +33,7 @@ const MESSAGES: usize = 343296;
 const INPUT: usize = 65536;
 
 fn main(rt: HostRuntime) {
-    let mut input = input_buffer();
+    let mut input = zeros::<ROOM>();
     let length = read_input(&rt, &mut input);
     if let Err(refused) = play_all(&rt, &input[..length]) {
         let _ = println!(rt; "{refused}");

@@ -16,7 +16,7 @@ pub struct Terms<'a> {
 }
 
 impl<'a> Terms<'a> {
-    // The session's own first two bytes, and the system with its sizes.
+    // The session's own first two bytes, and the system with its sizes, read before the first call checks it.
     pub fn of(system: &'a [u8], bytes: &[u8]) -> Terms<'a>
         ensures { result.system.now ≡ system.now }
     {

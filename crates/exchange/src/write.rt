@@ -1,4 +1,5 @@
-// Messages put together in a lent output of their length: pieces one behind the other.
+// Messages put together in a lent output of their length: pieces one behind the other. Three contracts ask that n is at most 96: it
+// comes from a system or from a session, and a reply of the card has no system at hand whose type would say so.
 ghost use Rattle.std.specs.Prelude.{◌≡◌, ◌+◌, ◌≤◌, length};
 ghost use Rattle.scheme.specs.declared.Scheme.TheVariants.{ThreePass, FivePass};
 ghost use Rattle.scheme.specs.Scheme.{commitments_length, rhos_length, reply_length};

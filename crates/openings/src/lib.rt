@@ -91,13 +91,12 @@ pub fn opened_string(system: &System, bytes: &[u8], r: u8, k: u8) -> Text
 pub fn same_vectors(d: Domain, x: Text, y: Text) -> bool
     ensures { result ≡ same_vectors d (content x) (content y) }
 {
-    let first = x.bytes;
-    let second = y.bytes;
     let at = vectors_at(d);
-    part(part(&first, 0, x.len), at, x.len) == part(part(&second, 0, y.len), at, y.len)
+    part(part(&x.bytes, 0, x.len), at, x.len) == part(part(&y.bytes, 0, y.len), at, y.len)
 }
 
-// The first vector of a reply: r0 to challenge 0, r1 to challenge 1.
+// The first vector of a reply: r0 to challenge 0, r1 to challenge 1. Here and in `secret` the system is any bytes: a `System` would ask
+// more of callers.
 #[tactic(auto, unfolding(crate::specs::Openings::reply_vector))]
 fn reply_vector(system: &[u8], bytes: &[u8], r: u8) -> [u8; 96]
     ensures { result ≡ reply_vector system.now bytes.now r }

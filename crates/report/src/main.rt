@@ -2,11 +2,12 @@
 #![tactic(auto)]
 
 use files::{print, read_input};
-use reporting::{input_buffer, report, text_buffer};
+use reporting::{INPUT, TEXT, report};
+use slices::zeros;
 
 fn main(rt: HostRuntime) {
-    let mut input = input_buffer();
-    let mut text = text_buffer();
+    let mut input = zeros::<INPUT>();
+    let mut text = zeros::<TEXT>();
     let length = read_input(&rt, &mut input);
     let written = report(&input[..length], &mut text);
     print(&rt, &text[..written]);

@@ -5,7 +5,6 @@
 #![tactic(auto)]
 
 ghost use Rattle.std.specs.Prelude.{◌≡◌, ◌+◌, ◌≤◌, length, IfOk};
-ghost use Rattle.slices.specs.Slices.{zeros as zeros_of};
 ghost use Rattle.text.specs.Writer.{Appends};
 ghost use Rattle.refusal.specs.Refusal.{number_of};
 ghost use Rattle.reporting.specs.Report.{system_part, record_part, report_refusal, judged_text, report_text, report_length, report_out};
@@ -13,24 +12,16 @@ ghost use Rattle.reporting.specs.Report.{system_part, record_part, report_refusa
 use record::header_of;
 use refusal::{Refusal, require};
 use report_lines::{refused_line, round_line, totals_line, verdict_line};
-use slices::{byte_at, part, zeros};
+use slices::{byte_at, part};
 use system::{System, system_length};
 use text::Writer;
 use transcript::{accepts_round, checked_system, round_challenge};
 
-// Zeros, with room for the longest input and one byte more, by which an input that is too long shows.
-pub fn input_buffer() -> [u8; 65537]
-    ensures { (result ≡ zeros_of 65537) × (65537 ≡ length result) }
-{
-    zeros()
-}
+// Room for the longest input and one byte more, by which an input that is too long shows.
+pub const INPUT: usize = 65537;
 
-// Zeros, with room for the longest text.
-pub fn text_buffer() -> [u8; 8192]
-    ensures { (result ≡ zeros_of 8192) × (8192 ≡ length result) }
-{
-    zeros()
-}
+// Room for the longest text.
+pub const TEXT: usize = 8192;
 
 // The system at the front of the input.
 #[tactic(auto, unfolding(crate::specs::Report::system_part))]
@@ -101,7 +92,7 @@ pub fn report(input: &[u8], text: &mut [u8]) -> usize
     ensures { (result ≡ report_length input.now (length text.old))
         × (text.new ≡ report_out input.now text.old) × (result ≤ length text.old) }
 {
-    if text.len() != 8192 {
+    if text.len() != TEXT {
         return 0;
     }
     let mut writer = Writer::new(text);

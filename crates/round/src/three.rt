@@ -109,7 +109,8 @@ pub fn first_opening(
     }
 }
 
-// The string of the second opening, whatever v: of c1 for challenge 2, else of c2.
+// The string of the second opening, whatever v: of c1 for challenge 2, else of c2. The system is any bytes: a `System` would ask more of
+// callers.
 pub fn second_opening(system: &[u8], d: Domain, challenge: u8, reply: ReplyThree) -> Text
     ensures { Room 96 result × ((v : List ℕ) → TextOf (string_of d (opening_at (openings_three system.now v challenge reply) 1)) 96 result) }
 {

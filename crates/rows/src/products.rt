@@ -1,4 +1,5 @@
-// The sum of the products of two rows, in the field of q.
+// The sum of the products of two rows, in the field of q. That a is no longer than b stands in three contracts, here and in `sums`: it
+// is said of two rows, and a type that held both would be built for each call.
 ghost use Rattle.std.specs.Prelude.{◌≡◌, ◌%◌, ◌≤◌, length};
 ghost use Rattle.slices.specs.Slices.{◌!◌};
 ghost use Rattle.field.specs.Ops.{ops};

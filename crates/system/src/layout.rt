@@ -53,7 +53,7 @@ pub fn check(system: &[u8]) -> Result<(), Refusal>
     require(all_below(q, coefficients), Refusal::Element)
 }
 
-// Whether the system has this q, n and m.
+// Whether any bytes have this q, n and m.
 #[tactic(auto, unfolding(crate::specs::System::has_sizes))]
 pub fn has_sizes(system: &[u8], q: u8, n: u8, m: u8) -> bool
     ensures { result ≡ has_sizes system.now q n m }

@@ -9,7 +9,7 @@ ghost use Rattle.text.specs.Writer.{Appends};
 
 use slices::{part, put};
 
-// A lent text, and how many bytes of it are written.
+// A lent text, and how many bytes of it are written. Each call asks for the room of what it puts, which is no fact of the writer.
 #[derive(Drop)]
 pub struct Writer<'a> {
     buffer: &'a mut [u8],
