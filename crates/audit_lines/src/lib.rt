@@ -54,7 +54,7 @@ fn rejected_line(text: &mut Writer, whose: u8, round: u8)
     text.append(b"\n");
 }
 
-// The line of a refusal.
+// The line of a refusal; a number, as `Finding::Refused` has it.
 #[tactic(auto, unfolding(crate::specs::AuditLines::refusal_line))]
 fn refusal_line(text: &mut Writer, number: u8, whose: u8, round: u8)
     requires { text.old.written + 32 ≤ length text.old.buffer.now }
@@ -92,12 +92,11 @@ fn both_strings(text: &mut Writer, k: u8, first: Text, second: Text)
     requires { text.old.written + 2048 ≤ length text.old.buffer.now }
     ensures { Appends text.old text.new (clash_lines k (content first) (content second)) }
 {
-    let (first_bytes, second_bytes) = (first.bytes, second.bytes);
     clash_lines(
         text,
         k,
-        part(&first_bytes, 0, first.len),
-        part(&second_bytes, 0, second.len),
+        part(&first.bytes, 0, first.len),
+        part(&second.bytes, 0, second.len),
     );
 }
 

@@ -64,7 +64,7 @@ pub fn key_at(bytes: &[u8], i: u32) -> &[u8]
     part(keys_of(bytes), of_cards(i, m), usize::from(m))
 }
 
-// Refuses card i's offset.
+// Refuses card i's offset. From u32 to usize there is only a cast.
 #[tactic(auto, using(slices::proofs::Parts::part_count), unfolding(crate::specs::Reader::offset_refusal))]
 fn check_offset(table: &[u8], front: Front, i: u32) -> Result<(), Refusal>
     requires { i * 14 + 14 ≤ length table.now }

@@ -36,7 +36,7 @@ pub fn read_fields(bytes: &[u8], fields: &mut [u8]) -> Result<(), Refusal>
     Ok(())
 }
 
-// The refusal's number with the record and the round, 0 for a finding.
+// The refusal's number with the record and the round, 0 for a finding: here and below C gets one number.
 #[tactic(auto, unfolding(crate::specs::Layouts::audit_number))]
 fn audit_number(f: Finding) -> u32
     ensures { result ≡ audit_number f }

@@ -17,12 +17,11 @@ pub fn answer_alpha(card: Card, system: &[u8], alpha: u8, out: &mut [u8]) -> Ans
 {
     match check_alpha(card, system, alpha, out.len()) {
         Ok(system) => {
-            let (r0, t0, e0, e1) = (card.r0, card.t0, card.e0, card.e1);
-            let sent = middle(&system, alpha, r0, t0, e0);
+            let sent = middle(&system, alpha, card.r0, card.t0, card.e0);
             write_middle(sent, system.n(), system.m(), out);
             Answered::done(
                 (),
-                card_with(card, CardPhase::Reply, card.round, held_lent(card), e1),
+                card_with(card, CardPhase::Reply, card.round, held_lent(card), card.e1),
             )
         }
         Err(refusal) => Answered::refused(refusal, card),

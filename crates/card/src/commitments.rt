@@ -21,8 +21,7 @@ fn commit_three(card: Card, system: &System, lent: &[u8], out: &mut [u8]) -> Car
 {
     let (n, m) = (system.n(), system.m());
     let l = read_lent(lent, n, m);
-    let (s, r0, t0, e0) = (card.s, l.r0, l.t0, l.e0);
-    let w = card_three(system, s, r0, t0, e0);
+    let w = card_three(system, card.s, l.r0, l.t0, l.e0);
     write_three_commitments(commitments_three(card_domain(card), n, m, w, l.rhos), out);
     card_with(card, CardPhase::Reply, card.round, l, w.e1)
 }
@@ -35,9 +34,9 @@ fn commit_five(card: Card, system: &System, lent: &[u8], out: &mut [u8]) -> Card
     ensures out { out.new ≡ sent_commitments card system.now.bytes.now lent.now }
 {
     let l = read_lent(lent, system.n(), system.m());
-    let (s, r0, t0, e0) = (card.s, l.r0, l.t0, l.e0);
+    let d = card_domain(card);
     write_five_commitments(
-        commitments_five(card_domain(card), system, s, r0, t0, e0, l.rhos),
+        commitments_five(d, system, card.s, l.r0, l.t0, l.e0, l.rhos),
         out,
     );
     card_with(card, CardPhase::AnswerAlpha, card.round, l, [0; 96])

@@ -42,8 +42,7 @@ fn write_reply(card: Card, challenge: u8, out: &mut [u8])
             write_reply_three(sent, card.n, card.m, out);
         }
         Scheme::FivePass => {
-            let (s, r0) = (card.s, card.r0);
-            let sent = reply_five(card.q, card.n, s, r0, card.rhos, challenge);
+            let sent = reply_five(card.q, card.n, card.s, card.r0, card.rhos, challenge);
             write_reply_five(sent, card.n, out);
         }
     }

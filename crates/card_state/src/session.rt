@@ -107,7 +107,7 @@ pub fn closed_card() -> Card
     }
 }
 
-// The same session in another phase and round, with what is lent for it.
+// The same session in another phase and round, with what is lent for it. A field's array goes into a literal by a local: else there is no proof.
 #[tactic(auto, unfolding(crate::specs::Card::card_with))]
 pub fn card_with(card: Card, phase: CardPhase, round: u8, l: Lent, e1: [u8; 96]) -> Card
     ensures { result ≡ card_with card phase round l e1 }

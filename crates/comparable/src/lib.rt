@@ -47,10 +47,7 @@ fn check_audited(scheme: Scheme, bytes: Option<&[u8]>) -> Result<(), Refusal>
     let Some(bytes) = bytes else {
         return Ok(());
     };
-    let reading = read(bytes);
-    let Ok(layout) = reading else {
-        return reading.map(|_| ());
-    };
+    let layout = read(bytes)?;
     require(layout.header.scheme == scheme, Refusal::Value)
 }
 

@@ -23,9 +23,7 @@ pub fn recorded<R: Env + Eprint + Files + Print>(
     commitments: &[u8],
     exchanges: &[u8],
     number: usize,
-) -> Result<(), Refused>
-    requires { length t.system.now ≤ 65536 }
-{
+) -> Result<(), Refused> {
     let mut both = zeros::<BOTH>();
     let end = written(t, v, commitments, exchanges, &mut both)?;
     let input = part(&both, 0, end);
@@ -44,7 +42,7 @@ fn written(
     exchanges: &[u8],
     out: &mut [u8],
 ) -> Result<usize, Refused>
-    requires { (length t.system.now ≤ 65536) × (length out.old ≡ 1065536) }
+    requires { length out.old ≡ 1065536 }
 {
     let header = Header::of_bytes(t.scheme, t.q, t.n, t.m, t.rounds);
     let layout = header.layout();

@@ -1,5 +1,5 @@
 // What a session is about.
-ghost use Rattle.std.specs.Prelude.{◌≡◌, ◌≤◌};
+ghost use Rattle.std.specs.Prelude.{◌≤◌, length};
 
 use scheme::{Scheme, of_rounds, scheme_of};
 use slices::byte_at;
@@ -13,12 +13,13 @@ pub struct Terms<'a> {
     pub q: u8,
     pub n: u8,
     pub m: u8,
+    ghost room: { length system.now ≤ 65536 },
 }
 
 impl<'a> Terms<'a> {
     // The session's own first two bytes, and the system with its sizes, read before the first call checks it.
     pub fn of(system: &'a [u8], bytes: &[u8]) -> Terms<'a>
-        ensures { result.system.now ≡ system.now }
+        requires { length system.now ≤ 65536 }
     {
         Terms {
             system,

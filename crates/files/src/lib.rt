@@ -35,7 +35,8 @@ pub fn has_word<R: Env>(rt: &R, i: usize) -> bool {
 }
 
 // Reads the file that argument i names, and answers how many bytes it has, or None where standard error says why. It has to leave
-// a byte of the buffer, or it is too large. `missing` is said where there is no such argument, what is not ASCII in it escaped.
+// a byte of the buffer, or it is too large. `missing` is said where there is no such argument, what is not ASCII in it escaped. A
+// length and no slice: what of the buffer is the file is cut where a contract says so (audit_lines).
 pub fn load<R: Env + Files + Eprint>(
     rt: &R,
     i: usize,

@@ -74,7 +74,7 @@ fn full_set(records: &Records, r: u8) -> bool
     }
 }
 
-// The first round with a full set. The round is what the loop yields by its break, which a `for` has not.
+// The first round with a full set. A rule of the project: this search is a loop whose value is the round.
 #[tactic(auto, using(refusal::proofs::Search::where_start, refusal::proofs::Search::where_step, refusal::proofs::Search::where_here, refusal::proofs::Search::where_end), unfolding(crate::specs::FullSet::first_full))]
 pub fn first_full(records: &Records) -> Option<u8>
     ensures { counted result ≡ first_full records.now.scheme records.now.a.now records.now.b.now records.now.c.now records.now.d.now }

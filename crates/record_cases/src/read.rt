@@ -30,7 +30,7 @@ fn layout_bytes(layout: Layout) -> [u8; 30] {
     bytes
 }
 
-// A body's offset and length.
+// A body's offset and length, laid out here once more: the record's own entries are what is tested.
 fn entry(body: Body) -> [u8; 8] {
     let mut bytes = [0; 8];
     put(&mut bytes, 0, &word(body.offset));

@@ -2,10 +2,8 @@
 #![tactic(auto)]
 
 use cases::{Case, Kind};
+use reporting::TEXT;
 use slices::zeros;
-
-// The bytes of the longest text.
-const TEXT: usize = 8192;
 
 // Runs a case, whose input the buffer has room for, and answers whether it agrees. A case of another kind is malformed. The text
 // must have the length and the bytes expected; a report answers no number of its own.

@@ -1,7 +1,7 @@
 // The vectors of a round as the card and the simulator form them.
 //
-// s, r0, t0 and e0 are arguments of their own: the card holds them as fields beside others, so a struct of them would be filled
-// before each call, no plainer.
+// s, r0, t0 and e0 are arguments of their own, as in the definitions: with a struct each contract would have to name its four
+// fields.
 ghost use Rattle.std.specs.Prelude.{◌≡◌};
 ghost use Rattle.field.specs.Ops.{ops};
 ghost use Rattle.field.specs.Vector.{sub_v};

@@ -4,8 +4,8 @@
 // These functions refuse nothing: whoever calls them has checked the system, and takes the
 // elements and challenges that document 01 allows. A challenge above its range is taken as the largest of it.
 //
-// Three and five passes have a file each: what they commit to and reply differs in all but the words, so that one form for both
-// would be a trait with a body for each, no plainer.
+// Three and five passes have a file each, and commitments and replies of their own: c0, c1, c2 and the vectors have the names by
+// which the definitions speak, and an array of commitments or a trait would take them away.
 #![tactic(auto)]
 
 mod card;

@@ -27,7 +27,7 @@ fn whole_blocks(message: &[u8]) -> State
     s
 }
 
-// The hash value after every block of the padded message.
+// The hash value after every block of the padded message. The bound stands in four contracts: a type for it would be built by every caller.
 fn last_value(message: &[u8]) -> State
     requires { length message.now ≤ 65535 }
     ensures { variables result ≡ hash_value (pad message.now) (block_count (pad message.now)) }

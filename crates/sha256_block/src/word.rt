@@ -27,7 +27,7 @@ pub fn majority(x: u32, y: u32, z: u32) -> u32
     (x & y) ^ (x & z) ^ (y & z)
 }
 
-// The four functions stay apart: each is its definition in the standard, of which one with const parameters would show no amount.
+// The four functions stay apart: each is its definition in the standard, by the name that it has there.
 #[tactic(auto, using(crate::proofs::Operations::upper_sigma0_is))]
 pub fn upper_sigma0(x: u32) -> u32
     ensures { result ≡ Σ0 x }

@@ -29,7 +29,7 @@ pub fn bytes_at<const N: usize>(s: &[u8], at: usize) -> [u8; N]
     out
 }
 
-// Whether two slices hold the same bytes.
+// Whether two slices hold the same bytes: `==` under a name, whose promise a proof can cite where `==` would be opened.
 #[tactic(auto, using(crate::proofs::Sameness::pointwise_same))]
 pub fn equal(a: &[u8], b: &[u8]) -> bool
     ensures { result ≡ same a.now b.now }

@@ -32,7 +32,7 @@ fn is_size(k: u8) -> bool
     (1..=96).contains(&k)
 }
 
-// Whether q, n and m are among their values.
+// Whether q, n and m are among their values. They stay three, since headers, books, sessions and definitions have them as fields.
 #[tactic(auto, unfolding(crate::specs::System::are_sizes))]
 pub fn are_sizes(q: u8, n: u8, m: u8) -> bool
     ensures { result ≡ are_sizes q n m }

@@ -4,7 +4,7 @@
 // No message is refused: of a record that is too short, what there is of a message is given. Whoever takes a record from
 // outside reads it first; `checked_system` does so, with the system by which the record is judged.
 //
-// The bytes and the round are two arguments and no struct: it would be made anew for each call.
+// The bytes and the round are two arguments, as in the definitions: with a struct each contract would have to name its two fields.
 #![tactic(auto)]
 
 ghost use Rattle.std.specs.Prelude.{◌≡◌, IfOk};
