@@ -1,5 +1,5 @@
 // What a session is about.
-ghost use Rattle.std.specs.Prelude.{◌≤◌, length};
+ghost use Rattle.std.specs.Prelude.{◌≡◌, ◌≤◌, length};
 
 use scheme::{Scheme, of_rounds, scheme_of};
 use slices::byte_at;
@@ -20,6 +20,7 @@ impl<'a> Terms<'a> {
     // The session's own first two bytes, and the system with its sizes, read before the first call checks it.
     pub fn of(system: &'a [u8], bytes: &[u8]) -> Terms<'a>
         requires { length system.now ≤ 65536 }
+        ensures { result.system.now ≡ system.now }
     {
         Terms {
             system,
