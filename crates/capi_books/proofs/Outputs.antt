@@ -5,16 +5,20 @@ use mathlib.Core.List.{List}
 use native.Mathlib.Omega.{arith}
 use Rattle.std.specs.Prelude.{Option, Some, None, Result, Ok, Err}
 use lib.Dec.{eqb}
-use lib.ListN.{length}
+use lib.ListN.{length, length-replicate}
 use borrow.Author.Tests.{eq-eqb, ne_eqb}
+use Rattle.slices.specs.Slices.{zeros}
+use Rattle.slices.proofs.Booleans.{either}
 use Rattle.refusal.specs.declared.Refusal.{Refusal}
 use Rattle.refusal.specs.Refusal.{number, unless, ◌or_else◌, kept}
 use Rattle.refusal.proofs.Refusals.{equal_holds, unless_holds, later_decides, kept_refused, kept_accepted}
+use Rattle.field.proofs.Vectors.{length-vector}
+use Rattle.book_form.specs.Book.{front_in, table_in}
 use Rattle.book_form.proofs.Loops.{some_number}
 use Rattle.book_reader.specs.Reader.{book_refusal}
 use Rattle.book_reader.proofs.WellFormed.{accepted}
-use Rattle.book_lookup.specs.Answer.{LookedUp}
-use Rattle.book_lookup.specs.Lookup.{lookup_of, no_key, answered}
+use Rattle.book_lookup.specs.Answer.{Absent, Refused, LookedUp}
+use Rattle.book_lookup.specs.Lookup.{place_in, key_in, no_key, lookup_at, lookup_refusal, lookup_of, answered}
 use Rattle.capi_books.specs.Numbers.{answer_number, lookup_number}
 
 -- a book that is not refused has its first seven bytes
@@ -24,6 +28,24 @@ seven b none = (accepted b (sym none)).laid_out.size
 -- an output that is not refused has its length
 pub fits : (room long : ℕ) → 0 ≡ unless (eqb room long) 2 → room ≡ long
 fits room long none = equal_holds room long 2 tt (sym none)
+
+-- a key has 96 bytes, whatever the answer is
+abbrev Long : LookedUp → Type 0
+Long r = length r.key ≡ 96
+
+no_key_long : (r : LookedUp) → r.key ≡ zeros 96 → Long r
+unfolding zeros
+no_key_long r is = ap length is ∙ length-replicate {A = ℕ} 96 0
+
+key_in_long : (b : List ℕ) (i : ℕ) → length (key_in b i) ≡ 96
+unfolding key_in
+key_in_long b i = length-vector _ _
+
+pub key_long : (b label : List ℕ) → length (lookup_of b label).key ≡ 96
+unfolding lookup_of lookup_at no_key
+key_long b label =
+    either Long (eqb (lookup_refusal b label) 0) _ _
+    (either Long (eqb (place_in (table_in b) (front_in b).count label) 0) _ _ (no_key_long (no_key Absent) refl) (key_in_long b _)) (no_key_long (no_key (Refused (lookup_refusal b label))) refl)
 
 -- ---- a lookup, into a key of this length
 

@@ -2,12 +2,13 @@
 use Prim.Native.Nat.{ℕ, zero, suc, ◌+◌, ◌-◌, ◌*◌, ◌%◌, ◌≤◌, ◌<◌, max}
 use mathlib.Core.Path.{◌≡◌, refl, sym, ap, ap₂, fun_ext, ◌∙◌}
 use mathlib.Core.Bool.{Bool, true, false, ◌&&◌, and-true}
-use mathlib.Core.List.{List, [], ◌∷◌}
+use mathlib.Core.List.{List, [], ◌∷◌, ◌++◌}
 use native.Mathlib.Nat.{add-zero, add-suc, add_assoc, zero-mul, zero-mod, mod-mod, add-mod, not-suc-le-zero, max-zero}
 use native.Mathlib.Numerals.{add-one}
 use native.Mathlib.Omega.{arith}
 use lib.Dec.{ltb}
 use lib.ListN.{length, take, drop}
+use lib.Seq.{take-suc, take_all}
 use borrow.Author.Tests.{ltb-true, ltb-false, lt-ltb, le-ltb}
 use Rattle.std.specs.List.{fold}
 use Rattle.field.specs.Ops.{modulus, ops}
@@ -20,6 +21,18 @@ use Rattle.field.specs.Row.{largest, products}
 
 max_assoc : (a b c : ℕ) → max a (max b c) ≡ max (max a b) c
 max_assoc a b c = omega arith
+
+largest-append : (s : List ℕ) (x : ℕ) → largest (s ++ x ∷ []) ≡ max (largest s) x
+unfolding largest
+largest-append [] x = omega arith
+largest-append (y ∷ s) x = ap (λ (k : ℕ). max y k) (largest-append s x) ∙ max_assoc y (largest s) x
+
+pub largest_step : (s : List ℕ) (i m x r : ℕ) → m ≡ largest (take i s) → i < length s → x ≡ s ! i → r ≡ max m x → r ≡ largest (take (i + 1) s)
+largest_step s i m x r em h ex er =
+    er ∙ ap₂ max em ex ∙ sym (largest-append (take i s) (s ! i)) ∙ ap largest (sym (ap (λ (k : ℕ). take k s) (add-one i) ∙ take-suc s i 0 h))
+
+pub largest_end : (s : List ℕ) (i m : ℕ) → m ≡ largest (take i s) → length s ≤ i → m ≡ largest s
+largest_end s i m e h = e ∙ ap largest (take_all i s h)
 
 -- what a fold of the larger of two gives
 pub fold-largest : (m : ℕ) (s : List ℕ) → fold (λ a x. max a x) m s ≡ max m (largest s)

@@ -33,7 +33,7 @@ module _ (d : Domain) (c : List ℕ) where
   unfolding all_open
   one_opens os one t k h number = judged (opening_at os 0) 0 t k h number ∙ and-true _ ∙ ap (all_open d c) (sym one)
 
-  both_open : (os : List Opening) → os ≡ opening_at os 0 ∷ opening_at os 1 ∷ [] → (t u : Text) (j k : ℕ) →
+  pub both_open : (os : List Opening) → os ≡ opening_at os 0 ∷ opening_at os 1 ∷ [] → (t u : Text) (j k : ℕ) →
       TextOf (string_of d (opening_at os 0)) 96 t → TextOf (string_of d (opening_at os 1)) 96 u → j ≡ (opening_at os 0).k → k ≡ (opening_at os 1).k →
       (tested t j && tested u k) ≡ all_open d c os
   unfolding all_open

@@ -207,7 +207,25 @@ pub none_left : (ls ms : List ℕ) → ls ≡ [] → false ≡ rises (halves ls)
 unfolding rises halves
 none_left ls ms e = sym (ap (λ (s : List ℕ). rises (halves s) (halves ms)) e)
 
--- labels of ten bytes
+-- labels of ten bytes, and others
 pub ten_below : (a b : List ℕ) → length a ≡ 10 → length b ≡ 10 → rises (halves a) (halves b) ≡ is_below a b
 unfolding is_below
 ten_below a b ten_a ten_b = sym (simp (eq-eqb (length a) 10 ten_a, eq-eqb (length b) 10 ten_b))
+
+pub first_not_ten : (a b : List ℕ) → (length a ≡ 10 → ⊥) → false ≡ is_below a b
+unfolding is_below
+first_not_ten a b not_ten = sym (simp (ne_eqb (length a) 10 not_ten))
+
+pub second_not_ten : (a b : List ℕ) → length a ≡ 10 → (length b ≡ 10 → ⊥) → false ≡ is_below a b
+unfolding is_below
+second_not_ten a b ten_a not_ten = sym (simp (eq-eqb (length a) 10 ten_a, ne_eqb (length b) 10 not_ten))
+
+-- ---- a loop that looks at the bytes of a label
+
+pub not_ten : (l : List ℕ) → (length l ≡ 10 → ⊥) → false ≡ is_label l
+unfolding is_label
+not_ten l differs = sym (simp (ne_eqb (length l) 10 differs))
+
+pub last_decides : (l : List ℕ) → length l ≡ 10 → all_of 9 (λ k. are_digits (l ! k)) ≡ true → are_last (l ! 9) ≡ is_label l
+unfolding is_label
+last_decides l ten nine = sym (simp (eq-eqb (length l) 10 ten, nine))

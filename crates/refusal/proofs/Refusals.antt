@@ -56,6 +56,10 @@ unless_holds t k h = rw h
 
 -- ---- the first refusal over an index
 
+pub first_of_zero : (refusal : ℕ → ℕ) → 0 ≡ first_of 0 refusal
+unfolding first_of
+first_of_zero refusal = refl
+
 pub first_of_step : (refusal : ℕ → ℕ) (i x y : ℕ) → x ≡ first_of i refusal → y ≡ refusal i → (x or_else y) ≡ first_of (i + 1) refusal
 unfolding first_of
 first_of_step refusal i x y ex ey = rw (add-one) (ap₂ ◌or_else◌ ex ey)

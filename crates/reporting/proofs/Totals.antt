@@ -16,7 +16,9 @@ use Rattle.text.proofs.Reading.{words_spaced, line_alone}
 use Rattle.record_form.specs.Record.{header_in}
 use Rattle.record_form.proofs.ValidForm.{values}
 use Rattle.record.proofs.RecordLayout.{accepted, not_refused}
-use Rattle.transcript.specs.Transcript.{accepted_count}
+use Rattle.refusal.proofs.Refusals.{first_zero, later_zero}
+use Rattle.system.specs.System.{system_refusal}
+use Rattle.transcript.specs.Transcript.{judge_refusal, accepted_count}
 use Rattle.report_lines.specs.ReportLines.{accept_word, reject_word, verdict_word, verdict_line, totals_line, refused_line}
 use Rattle.report_lines.specs.ReadLines.{rounds_with}
 use Rattle.report_lines.proofs.ReadLines.{verdict_read, totals_read, verdict_words, totals_words, refused_words, end_lines, no_rounds_at_end}
@@ -112,3 +114,9 @@ report_refused input other = go (eqb (report_refusal input) 0) refl
     go : (t : Bool) → eqb (report_refusal input) 0 ≡ t → RefusedAlone (cond t (judged_text (system_part input) (record_part input)) (refused_line (report_refusal input)))
     go true none = absurd (other (system_part input) (record_part input) (joined input) (reportable input (eqb-true _ 0 none)))
     go false refused = refused_line_alone (report_refusal input)
+
+-- ---- the system of an input that is not refused is not refused
+
+pub system_good : (input : List ℕ) → report_refusal input ≡ 0 → system_refusal (system_part input) ≡ 0
+unfolding report_refusal judge_refusal
+system_good input none = first_zero _ _ (later_zero _ _ none)

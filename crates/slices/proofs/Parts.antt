@@ -5,8 +5,8 @@ use mathlib.Core.List.{List, [], ◌++◌, append-nil, append_assoc}
 use native.Mathlib.Nat.{lt_of_not-le}
 use native.Mathlib.Decide.{dec_le}
 use native.Mathlib.Omega.{arith}
-use lib.ListN.{length, take, drop, replicate, length-append, length-take, length-drop, length-replicate, get_or-replicate, get_or-append, get_or-eq_default}
-use lib.Seq.{length-take-le, take-append_seam, drop-append_seam, take_at, drop_at, take_all, take-length, drop-length, drop-drop, get_or-take, get_or-drop, get_or-append-add}
+use lib.ListN.{length, take, drop, replicate, length-append, length-take, length-drop, length-replicate, get_or-replicate, drop_of_length-le, get_or-append, get_or-eq_default}
+use lib.Seq.{length-take-le, take-append_seam, drop-append_seam, take_at, drop_at, take_all, take-nil, take-length, drop-length, drop-drop, get_or-take, get_or-drop, get_or-append-add}
 use borrow.Rule.Slice.PartMut.{put_mid, post_of, Post-is}
 use Rattle.slices.specs.Slices.{◌!◌, tabulate, placed}
 use Rattle.slices.proofs.Tabulate.{tabulate_of}
@@ -17,13 +17,27 @@ part_at a s e i h = get_or-take (e - s) (drop s a) i 0 h ∙ get_or-drop s a i 0
 pub length_part : (a : List ℕ) (s e : ℕ) → s ≤ e → e ≤ length a → length (take (e - s) (drop s a)) ≡ e - s
 length_part a s e h k = length-take-le (e - s) (drop s a) (simp length-drop (omega arith))
 
+-- a part that starts beyond the end, and one that ends there
+pub part_none : (l : List ℕ) (place k : ℕ) → length l ≤ place → take k (drop place l) ≡ []
+part_none l place k beyond = ap (take k) (drop_of_length-le l beyond) ∙ take-nil k
+
 -- a part as long as the whole has all that is left
 pub part_all : (l : List ℕ) (place : ℕ) → take (length l) (drop place l) ≡ drop place l
 part_all l place = take_all (length l) (drop place l) (rw (length-drop place l) (omega arith))
 
+-- and the part of all of it is the whole
+pub part_whole : (l : List ℕ) → take (length l) (drop 0 l) ≡ l
+part_whole l = part_all l 0
+
 -- `at..at + count` is a part of as many
 pub part_count : (place count : ℕ) → place + count - place ≡ count
 part_count place count = omega arith
+
+pub part_rest : (l : List ℕ) (place k j : ℕ) → length l ≤ place + k → length l ≤ place + j → take k (drop place l) ≡ take j (drop place l)
+part_rest l place k j hk hj = take_all k (drop place l) (short k hk) ∙ sym (take_all j (drop place l) (short j hj))
+  where
+    short : (i : ℕ) → length l ≤ place + i → length (drop place l) ≤ i
+    short i h = rw (length-drop place l) (omega arith)
 
 -- a part is no longer than asked for
 pub part_most : (l p : List ℕ) (place k : ℕ) → p ≡ take k (drop place l) → length p ≤ k
