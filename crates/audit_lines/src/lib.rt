@@ -101,7 +101,8 @@ fn both_strings(text: &mut Writer, k: u8, first: Text, second: Text)
 }
 
 // The text of what an audit answers, where the system's n is given.
-pub fn audit_text(audited: Audited, n: u8, text: &mut [u8; 2048]) -> usize
+pub fn audit_text(audited: Audited, n: u8, text: &mut [u8]) -> usize
+    requires { length text.old ≡ 2048 }
     ensures { (text.new ≡ placed text.old 0 (audit_text n (outcome_of audited))) × (result ≡ length (audit_text n (outcome_of audited)))
         × (result ≤ 2048) }
 {

@@ -78,7 +78,7 @@ fn byte_from(iccid: &[u8], i: usize) -> u8
 
 // The ten bytes that the characters stand for.
 #[tactic(auto, using(slices::proofs::Tabulate::tabulate_of))]
-fn bytes_from(iccid: &[u8]) -> [u8; 10]
+pub fn bytes_from(iccid: &[u8]) -> [u8; 10]
     ensures { result ≡ tabulate 10 (byte_from iccid.now) }
 {
     let mut bytes = [0; 10];
