@@ -71,18 +71,30 @@ fn session<'a, R: Env + Eprint + Files + Print>(
     let Some((bytes, rest)) = bytes.split_at_checked(t.session_length()) else {
         return Err(Refused::input());
     };
+    acted(rt, t, bytes, number)?;
+    Ok(rest)
+}
+
+// Plays the session that the bytes are, and files it. The buffers stand in front of all else: a function clears its locals when it is
+// entered, and would clear once more what is made behind a call or a `?`.
+fn acted<R: Env + Eprint + Files + Print>(
+    rt: &R,
+    t: Terms,
+    bytes: &[u8],
+    number: usize,
+) -> Result<(), Refused> {
+    let mut commitments = zeros::<MESSAGES>();
+    let mut exchanges = zeros::<MESSAGES>();
     let m = usize::from(t.m);
     let n = usize::from(t.n);
     let v = part(bytes, 2, m);
     let s = part(bytes, 2 + m, n);
     let rounds = part(bytes, 2 + m + n, bytes.len());
-    let mut commitments = zeros::<MESSAGES>();
-    let mut exchanges = zeros::<MESSAGES>();
     let mut ends = Ends::open(t, v, s)?;
     ends.play(t, rounds, &mut commitments, &mut exchanges)?;
     recorded(rt, t, v, &commitments, &exchanges, number)?;
     say_ends(rt, &ends);
-    Ok(rest)
+    Ok(())
 }
 
 // `card closed`, and `carrier closed, accepted, rounds accepted: 2`
