@@ -25,12 +25,15 @@ pub fn read_fields(book: &[u8], fields: &mut [u8]) -> Result<(), Refusal>
     Ok(())
 }
 
+// The bytes of a key's output.
+const KEY_LENGTH: usize = 96;
+
 // The key of the card with this label. The C interface needs one number: 0 where it is found, 255 where it is absent, else the refusal's.
 pub fn lookup_key<'a>(book: &'a [u8], label: &'a [u8], key: &mut [u8]) -> u8
     ensures { (result ≡ lookup_number book.now label.now (length key.old))
         × (key.new ≡ kept result key.old (lookup_of book.now label.now).key) }
 {
-    if key.len() != 96 {
+    if key.len() != KEY_LENGTH {
         return u8::from(Refusal::Length);
     }
     match lookup(book, label) {

@@ -6,8 +6,8 @@ use Rattle.std.proofs.Common.{rules}
 use Rattle.capi_books.proofs.Outputs.{no_room, found_key, absent_key, refused_key}
 use Rattle.capi_books.proofs.lookup_key.Goals as goal
 
-pub returns-then-key-ne96 : goal.returns-then-key-ne96
-returns-then-key-ne96 c = no_room _ _ _ _ c.if-key-ne96.true c.from.ensures
+pub returns-then-key-ne-KEY_LENGTH : goal.returns-then-key-ne-KEY_LENGTH
+returns-then-key-ne-KEY_LENGTH c = no_room _ _ _ _ c.if-key-ne-KEY_LENGTH.true c.from.ensures
 
 pub returns-in-Ok-Some : goal.returns-in-Ok-Some
 returns-in-Ok-Some c = found_key _ _ _ _ (omega arith) c.lookup.ensures.answer _ _ (c.in-Ok-Some.is ∙ ap Ok c.in-Ok-Some.field-0-is) (search rules)
