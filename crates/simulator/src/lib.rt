@@ -70,7 +70,7 @@ fn vectors_from(system: &System, unanswered: u8, v: &[u8], lent: &[u8], l: Lent)
 
 // Writes the three commitments and the reply to `challenge`; `unanswered` is Ch*, the challenge that is not
 // answered.
-#[tactic(auto, using(crate::proofs::NotRefused::answers), unfolding(crate::specs::Simulator::simulate_refusal))]
+#[tactic(auto, using(crate::proofs::NotRefused::answers, refusal::proofs::Answers::none_kept), unfolding(crate::specs::Simulator::simulate_refusal, crate::specs::Simulator::simulated_commitments, crate::specs::Simulator::simulated_reply, crate::specs::Simulator::lent_vectors, crate::specs::Simulator::simulator_domain))]
 pub fn simulate(
     system: &[u8],
     v: &[u8],
