@@ -42,7 +42,9 @@ fn check_exchange(check: Check, h: Header, exchange: &[u8]) -> Result<(), Refusa
     }
 }
 
-// Refuses the exchanges of all rounds where one is refused: as the first of those is.
+// Refuses the exchanges of all rounds where one is refused: as the first of those is. Put inline, what is looked for is known, and
+// the other tests are left out: else the writer takes 2.1 times as long for 40 rounds of (7, 16, 15).
+#[inline(always)]
 pub fn check_exchanges(check: Check, h: Header, exchanges: &[u8]) -> Result<(), Refusal>
     ensures { number_of result ≡ exchanges_refusal check h exchanges.now }
 {
