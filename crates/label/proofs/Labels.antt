@@ -220,7 +220,7 @@ pub second_not_ten : (a b : List ℕ) → length a ≡ 10 → (length b ≡ 10 �
 unfolding is_below
 second_not_ten a b ten_a not_ten = sym (simp (eq-eqb (length a) 10 ten_a, ne_eqb (length b) 10 not_ten))
 
--- ---- a loop that looks at the bytes of a label
+-- ---- the test of the bytes of a label
 
 pub not_ten : (l : List ℕ) → (length l ≡ 10 → ⊥) → false ≡ is_label l
 unfolding is_label
