@@ -17,7 +17,7 @@ use Rattle.field.specs.Vector.{as_vector}
 use Rattle.refusal.specs.Refusal.{first_where, number as refusal_number, counted as place_counted}
 use Rattle.book_form.proofs.Loops.{some_number}
 use Rattle.refusal.proofs.Refusals.{first_zero, later_zero, test_holds, both_zero, unless_holds, unless_most, or_else_most}
-use Rattle.refusal.proofs.Search.{none_where, where_found}
+use Rattle.refusal.proofs.Search.{none_where, where_found, found_where}
 use Rattle.label.specs.Label.{WellFormedLabel}
 use Rattle.label.specs.Tests.{is_label}
 use Rattle.label.proofs.Labels.{well_formed as well_formed_label, is_label_lem}
@@ -65,6 +65,15 @@ answered_some b label key place i taken here some is =
     let index : i ≡ place_in (table_in b) (front_in b).count label - 1 = omega (arith, at) in
     let found = is ∙ ap (key_in b) index in
     (λ j. record { answer = Found; key = found j }) ∙ sym (looked_found b label (sym taken) (λ nowhere. absurd (omega (arith, at, nowhere))))
+
+-- no card stands behind the last
+pub none_behind : (b label : List ℕ) (place : Option ℕ) (i : ℕ) → place_counted place ≡ place_in (table_in b) (front_in b).count label → place ≡ Some i →
+    (front_in b).count ≤ i → answered (Ok None) ≡ lookup_of b label
+unfolding place_in
+none_behind b label place i here some behind =
+    let at : place_in (table_in b) (front_in b).count label ≡ i + 1 = sym here ∙ ap place_counted some in
+    let inside = (found_where (front_in b).count _ i at).within in
+    absurd (omega (arith, inside, behind))
 
 -- the checked book has the bytes of the call
 pub place_there : (s b label : List ℕ) (place : ℕ) → s ≡ b → place ≡ place_in (table_in s) (front_in s).count label → place ≡ place_in (table_in b) (front_in b).count label
